@@ -37,6 +37,12 @@ class Folder(unittest.TestCase):
         with open(self.path(name), encoding="utf-8", newline="") as file:
             return file.read()
 
+    def takes_all(self):
+        """A program that takes any texts, and has a form of them."""
+        path = self.write("takes_all", "#!/bin/sh\ncase $1 in check) echo bank items 1 ;; *) printf 'form 0\\nobjective 1 proved nodes 1\\ntree 00\\n' ;; esac\n")
+        os.chmod(path, 0o755)
+        return path
+
     def tool(self, name, *words):
         """Status, standard output and standard error of a tool, called within this process in the test's folder."""
         said, errors, before = io.StringIO(), io.StringIO(), os.getcwd()

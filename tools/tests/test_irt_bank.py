@@ -1,6 +1,7 @@
 """From parameters to bank and plan: conventions, refusals, warnings, and the numbers of a bank worked out apart."""
 import json
 import math
+import os
 import re
 import unittest
 
@@ -154,7 +155,7 @@ class Bands(Converter):
     def bands(self, *words, items=ITEMS):
         """The points of the plan's line, and the standard output and error."""
         self.write("items", items)
-        status, said, errors = self.tool("irt_bank", "--items", "items", "--out", "o", "--program", self.write("none", ""), *self.RATE, *words)
+        status, said, errors = self.tool("irt_bank", "--items", "items", "--out", "o", "--program", self.takes_all(), *self.RATE, *words)
         found = re.search(r"(?m)^bands (.*)$", self.read("o.plan.txt")) if status != 2 else None
         return [int(word) for word in found.group(1).split()] if found else [], said, errors
 
@@ -263,6 +264,37 @@ class Refusals(Converter):
                 ("TYPE,WHAT,CONDITION,LB\n", "no column UB")):
             self.refuses(dict(items=TWO, attributes=ATTRIBUTES, constraints=rules), words)
 
+    def test_priors_that_the_grid_does_not_have(self):
+        one, half = ("--length", "1"), "0.5"
+        self.refuses({"items": TWO}, "--prior 10 1: 0.0% of it lies on the grid from -4 to 4", *one, "--prior", "10", "1")
+        self.refuses({"items": TWO}, "--prior 0 0.001: the standard deviation is below half a step of the grid, 0.2", *one, "--prior", "0", "0.001")
+        self.refuses({"items": TWO}, "--prior 50 10: 0.0% of it lies on the grid", *one, "--prior", "50", "10")
+        for words, wanted in ((("--prior", "4", "1", "--grid", "-4", "4.1", "41"), "54.0% of the prior lies on the grid"), (("--prior", "2.5", "1"), "93.3% of"),
+                              (("--prior", "0", half, "--grid", "-4", "4", "13"), "the prior's standard deviation 0.5 is below a step of the grid, 0.6667")):
+            status, errors = self.convert({"items": TWO}, *one, *words)
+            self.assertEqual((status, wanted in errors), (0, True), errors)
+        for words in (("--prior", "1", "1"), ("--prior", "0", half), ("--prior", "flat"), ("--prior", "0", "3", "--grid", "-9", "9", "61")):
+            status, errors = self.convert({"items": TWO}, *one, *words)
+            self.assertEqual((status, "lies on" in errors, "is below" in errors), (0, False, False), errors)
+
+    def test_parameters_of_another_metric(self):
+        """T-scores on a grid of logits inform nothing there; on a grid of their own they are taken, and forms are tried at 30 to 70."""
+        items = {"items": HEAD + "A,2PL,0.12,45,\nB,2PL,0.1,52,\nC,2PL,0.09,61,\n"}
+        self.refuses(items, "the items inform 0.000 at the abilities -2, -1, 0, 1, 2; difficulties are 45 to 61. Parameters, --grid and --prior are in "
+                            "one metric: for T-scores give --grid 10 90 61 --prior 50 10", "--length", "1")
+        self.write("items", items["items"])
+        status, said, errors = self.tool("irt_bank", "--items", "items", "--length", "2", "--out", "o", "--grid", "10", "90", "61", "--prior", "50", "10",
+                                         "--program", self.takes_all())
+        self.assertEqual((status, re.findall("ability ([-+0-9.]+): best", said)), (0, ["+30", "+40", "+50", "+60", "+70"]), errors)
+
+    def test_nothing_is_written_before_the_program_took_it(self):
+        self.refuses({"items": TWO}, "No such file or directory", "--length", "1", "--program", "nowhere")
+        self.write("no", "#!/bin/sh\necho plan: line 3 word\nexit 4\n")
+        os.chmod(self.path("no"), 0o755)
+        status, errors = self.convert({"items": TWO}, "--length", "1", "--program", self.path("no"))
+        self.assertEqual((status, errors.splitlines()[-1]), (3, "o: shadowd check, status 4: plan: line 3 word: length 1"))
+        self.assertFalse(os.path.exists(self.path("o.bank.csv")))
+
     def test_command_line(self):
         self.refuses({"items": TWO}, "2 to 61 points", "--length", "1", "--grid", "-4", "4", "62")
         self.refuses({"items": TWO}, "--quantity needs --attributes", "--length", "1", "--quantity", "W")
@@ -293,7 +325,9 @@ class Warnings(Converter):
         self.warns("no middle", {"items": TWO}, *one, "--grid", "-4", "4", "40")
         self.warns("flat prior", {"items": TWO}, *one, "--prior", "flat")
         self.warns("above half the least standard error of a test, 2.000", {"items": "a,b\n1,0\n"}, *one, "--grid", "-4", "4", "7")
-        self.warns("informs little at the ends", {"items": "a,b\n2,0\n"}, *one)
+        self.warns("informs little at the ends of the grid, where the prior has 5.7%", {"items": "a,b\n2,0\n"}, *one)
+        self.assertEqual("informs little" in self.convert({"items": "a,b\n2,0\n"}, *one, "--prior", "0", "0.8")[1], False)
+        self.assertEqual("informs little" in self.convert({"items": "a,b\n2,0\n"}, *one, "--prior", "flat")[1], True)
         self.warns("slopes below 0.2 or above 3: 1 items (item1)", {"items": "a,b\n4,0\n"}, *one)
         self.warns("lower asymptotes above 0.5", {"items": "a,b,c\n1,0,0.6\n"}, *one)
         self.warns("difficulties outside the grid", {"items": "a,b\n1,5\n"}, *one)

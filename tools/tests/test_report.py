@@ -180,6 +180,20 @@ class Targets(Folder):
 
 
 @needs_page
+class AnotherMetric(Examination):
+    def test_the_page(self):
+        """T-scores are named neither logits, nor are their bands and ranges those of logits."""
+        self.of_t_scores()
+        self.simulate("--tails", "20", "80", "--each", "2", "--true", "uniform", "30", "70")
+        status, _, errors = self.tool("report", "e", "--run", "run", "--to", "page.html", "--bands", "40", "60", "--cuts", "45")
+        self.assertEqual((status, errors), (0, ""))
+        page = re.sub(r"base64,[A-Za-z0-9+/=]+", "", self.read("page.html"))
+        self.assertFalse("logits" in page)
+        for wanted in ("with a true ability between 40 and 60", "True ability (ability units)", ">40 to 60<", "7 points from 20 to 80 ability units"):
+            self.assertTrue(wanted in page, wanted)
+
+
+@needs_page
 class Pages(Examination):
     """The page of one simulation, which is made once and copied into the folder of each test."""
     made = {}

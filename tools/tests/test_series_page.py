@@ -47,7 +47,7 @@ class Weights(Folder):
     def test_the_file(self):
         """irt_bank.py writes the word that `shadowd series` takes."""
         self.write("items", "ID,a,b\nA,1,0\nB,1,0\n")
-        words = ("irt_bank", "--items", "items", "--length", "1", "--out", "o", "--grid", "-1", "1", "5", "--program", "nowhere")
+        words = ("irt_bank", "--items", "items", "--length", "1", "--out", "o", "--grid", "-1", "1", "5", "--program", self.takes_all())
         self.tool(*words, "--weights", "5@-1", "3@0", "3@1")
         self.assertEqual(self.read("o.weights.txt"), "5,0,3,0,3\n")
         self.assertEqual(self.tool(*words, "--weights", "0@1")[0], 1)

@@ -46,6 +46,13 @@ class Examination(Folder):
         finally:
             os.environ["FAKE"] = ""
 
+    def of_t_scores(self):
+        """The same items as T-scores: the mean is 50, the standard deviation 10."""
+        self.write("items", "ID,MODEL,PAR1,PAR2\n" + "".join(f"I{k},2PL,0.12,{50 + 5 * (k - 3):g}\n" for k in range(8)))
+        status, _, errors = self.tool("irt_bank", "--items", "items", "--attributes", "attributes", "--constraints", "constraints", "--out", "e",
+                                      "--grid", "20", "80", "7", "--prior", "50", "10", "--program", self.takes_all(), "--information-unit", "100000")
+        self.assertEqual(status, 0, errors)
+
     def sessions(self, name="run.journal"):
         found = sessions_of(read_journal(self.path(name)))
         return sorted((one.booking, one.items, one.responses) for one in found)
@@ -149,6 +156,24 @@ class Simulations(Examination):
         status, _, errors = self.simulate("--true", "points", "-2", "0")
         self.assertEqual(status, 0, errors)
         self.assertEqual(json.loads(self.read("run.run.json"))["true"], [-2, -2, 0, 0])
+
+    def test_another_metric(self):
+        """Examinees and tails are where the prior has them, and the answers are those of the same items in logits."""
+        self.simulate("--tails", "-2", "3", "--each", "1")
+        before, run = self.sessions(), json.loads(self.read("run.run.json"))
+        self.of_t_scores()
+        status, _, errors = self.simulate("--tails", "30", "80", "--each", "1")
+        found = json.loads(self.read("run.run.json"))
+        self.assertEqual((status, found["of"]), (0, ["normal", "50", "10"]), errors)
+        for one, other in zip(run["true"], found["true"]):
+            self.assertAlmostEqual(50 + 10 * one, other, 6)
+        self.assertEqual(self.sessions(), before)
+        kept = ("simulate", "e", "--out", "run", "--program", self.fake, "--examinees", "4")
+        self.assertEqual(self.tool(*kept)[0], 0)
+        self.assertEqual(json.loads(self.read("run.run.json"))["tails"], [20, 25, 30, 70, 75, 80])
+        for words in (["--true", "points", "130"], ["--tails", "-11"]):
+            status, _, errors = self.tool(*kept, *words)
+            self.assertEqual((status, "abilities from -10 to 110" in errors), (1, True), errors)
 
     def test_other_rules_can_be_counted(self):
         prior = next(line for line in self.read("e.plan.txt").splitlines() if line.startswith("prior "))

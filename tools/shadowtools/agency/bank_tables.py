@@ -6,11 +6,15 @@ from typing import List, Optional, Sequence, Tuple
 
 import numpy as np
 
+from shadowtools.agency.expected import Expected
 from shadowtools.agency.irt import FIELD, Item
 from shadowtools.command import Refused
 from shadowtools.formats.tables import is_number
 
 MOST_POINTS, MOST_INFORMATION, LEAST_LOG, FARTHEST = 61, 1_000_000, -10_000_000, 100
+# Shares of the prior: on the grid, where below the first it is refused and below the second there is a warning; and at ends of the grid
+# that inform little, where from the third on there is a warning.
+LEAST_SHARE, COMMON_SHARE, ENDS_SHARE = 0.5, 0.99, 0.05
 
 
 # ---------------------------------------------------------------- grid and prior
@@ -35,15 +39,35 @@ def least_error(items: Sequence[Item], theta: np.ndarray, scaling: float, length
     return 1 / math.sqrt(max(float(information[:length].sum(0).max()), 1e-9))
 
 
-def log_prior(words: Sequence[str], theta: np.ndarray, unit: float) -> np.ndarray:
-    """The prior at each point in whole units, its greatest value 0."""
+def require_prior(words: Sequence[str], theta: np.ndarray) -> List[str]:
+    """Refuses a prior that is none, of which less than half lies on the grid, or whose standard deviation is below half a step: an
+    estimate could not leave the point of its mean. What is to be said of one of which less than 0.99 lies there, or whose standard
+    deviation is below a step."""
     if list(words) == ["flat"]:
-        return np.zeros(len(theta), int)
+        return []
     if len(words) != 2 or not all(map(is_number, words)):
         raise Refused(f"--prior {' '.join(words)}: MEAN SD, or flat")
     mean, deviation = map(float, words)
     if not (abs(mean) <= FARTHEST and 1e-3 <= deviation <= 1e3):
         raise Refused(f"--prior {' '.join(words)}: the mean is within {FARTHEST} of 0, the standard deviation from 0.001 to 1000")
+    share, step, said = Expected(mean, deviation).share_on(theta), theta[1] - theta[0], []
+    if share < LEAST_SHARE:
+        raise Refused(f"--prior {' '.join(words)}: {share:.1%} of it lies on the grid from {theta[0]:g} to {theta[-1]:g}; give --grid")
+    if deviation < step / 2:
+        raise Refused(f"--prior {' '.join(words)}: the standard deviation is below half a step of the grid, {step:.4g}; give --grid")
+    if share < COMMON_SHARE:
+        said.append(f"{share:.1%} of the prior lies on the grid from {theta[0]:g} to {theta[-1]:g}: the estimates of the other examinees "
+                    "are at most its ends")
+    if deviation < step:
+        said.append(f"the prior's standard deviation {deviation:g} is below a step of the grid, {step:.4g}")
+    return said
+
+
+def log_prior(words: Sequence[str], theta: np.ndarray, unit: float) -> np.ndarray:
+    """The prior at each point in whole units, its greatest value 0."""
+    if list(words) == ["flat"]:
+        return np.zeros(len(theta), int)
+    mean, deviation = map(float, words)
     exponent = -((theta - mean) / deviation) ** 2 / 2
     return np.maximum(np.rint((exponent - exponent.max()) * unit), LEAST_LOG).astype(int)
 
@@ -135,15 +159,25 @@ def grid_warnings(prior: Sequence[str], tables: Tables, length: int) -> List[str
         cure = f"take {points} points" if points <= MOST_POINTS else f"take {MOST_POINTS} points on a narrower grid"
         found.append(f"the step {step:.3f} is above half the least standard error of a test, {error:.3f}: "
                      f"the error of the estimate grows by {rounding_cost(step, error):.1%}; {cure}")
-    total = sum(item.information(theta, tables.scaling) for item in tables.items)
-    if min(total[0], total[-1]) < 0.1 * total.max():
-        found.append(f"the bank informs little at the ends of the grid: {total[0]:.2f} and {total[-1]:.2f}, "
-                     f"{total.max():.2f} at its best point")
+    found += end_warnings(prior, tables)
     if tables.clipped:
         found.append(f"{tables.clipped} log-likelihoods below {LEAST_LOG} were raised to it")
     if tables.faint:
         found.append(f"never above 10 units of information: {named(tables.faint)}")
     return found
+
+
+def end_warnings(prior: Sequence[str], tables: Tables) -> List[str]:
+    """What is to be said of ends of the grid at which the bank informs less than a tenth of its most, where the prior has examinees."""
+    total = sum(item.information(tables.theta, tables.scaling) for item in tables.items)
+    faint = total < 0.1 * total.max()
+    weights = np.exp(log_prior(prior, tables.theta, tables.log_unit) / tables.log_unit)
+    ends = np.logical_and.accumulate(faint) | np.logical_and.accumulate(faint[::-1])[::-1]
+    share = float(weights[ends].sum() / weights.sum())
+    if share < ENDS_SHARE:
+        return []
+    return [f"the bank informs little at the ends of the grid, where the prior has {share:.1%} of the examinees: {total[0]:.2f} and "
+            f"{total[-1]:.2f}, {total.max():.2f} at its best point"]
 
 
 def rounding_cost(step: float, error: float) -> float:

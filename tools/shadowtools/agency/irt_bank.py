@@ -30,8 +30,8 @@ PREFIX.bank.csv, PREFIX.plan.txt and PREFIX.map.json are written. The map has wh
 ability each point is, the units, and the names of the items and passages. The same input gives the same bytes.
 
 Rule for the grid: an odd number of points, with a step of at most half the least standard error of a test.
-Exit status: 0; 1 where the input is refused, with file, line and column, and nothing is written; 2 for a faulty command line; 3 where
-the program refuses what was written; 11 where no set of items meets the constraints, with those that clash; 12 where none was found.
+Exit status: 0; 1 where the input is refused, with file, line and column; 2 for a faulty command line; 3 where the program refuses the
+texts. With these nothing is written. 11 where no set of items meets the constraints, with those that clash; 12 where none was found.
 """
 import argparse
 import hashlib
@@ -40,8 +40,8 @@ import math
 import os
 import re
 import sys
-import unicodedata
-from typing import Any, Dict, Iterable, List, Sequence, Tuple
+import tempfile
+from typing import Any, Dict, List, Sequence, Tuple
 
 from shadowtools.needs import require
 
@@ -50,26 +50,25 @@ require("irt_bank.py", "numpy")
 import numpy as np  # noqa: E402
 
 from shadowtools.agency import band_points  # noqa: E402
+from shadowtools.agency.attributes import passage_warnings, read_attributes, read_quantities, rows_of_attributes  # noqa: E402
 from shadowtools.agency.bank_parameters import FORMATS, Reading, read_items  # noqa: E402
-from shadowtools.agency.bank_tables import (Tables, ability_grid, grid_warnings, item_warnings, least_error,  # noqa: E402
-                                            log_prior, rate_warnings, rounding_cost)
-from shadowtools.agency.blueprint import MOST_PASSAGES, Blueprint, compile_blueprint  # noqa: E402
+from shadowtools.agency.bank_tables import (Tables, ability_grid, grid_warnings, item_warnings, key_numbers,  # noqa: E402
+                                            least_error, log_prior, rate_warnings, require_prior, rounding_cost)
+from shadowtools.agency.blueprint import Blueprint, compile_blueprint  # noqa: E402
 from shadowtools.agency.custody import map_digest  # noqa: E402
 from shadowtools.agency.explain import clash, print_clash  # noqa: E402
-from shadowtools.agency.irt import Item  # noqa: E402
-from shadowtools.agency.program import DONE, NO_FORM, NOT_FOUND, Program, form_of, run  # noqa: E402
+from shadowtools.agency.expected import Expected, expected_by  # noqa: E402
+from shadowtools.agency.irt import FIELD, Item  # noqa: E402
+from shadowtools.agency.program import DONE, NO_FORM, NOT_FOUND, Program, form_of, written  # noqa: E402
 from shadowtools.agency.series_weights import weights_of, word_of  # noqa: E402
 from shadowtools.command import Refused, as_command  # noqa: E402
 from shadowtools.formats.examination import plan_of, read_bank  # noqa: E402
-from shadowtools.formats.tables import (ABSENT, SEPARATORS, THOUSAND, Dialect, Row, number_columns, read_table,  # noqa: E402
-                                        refuse_thousand, with_numbers)
+from shadowtools.formats.tables import SEPARATORS, Dialect  # noqa: E402
 from shadowtools.options import Options, between, require_folder, whole  # noqa: E402
 from shadowtools.places import BUILT  # noqa: E402
 
-PRIOR_MEANS = (-2, -1, 0, 1, 2)
-MOST_QUANTITIES, MOST_QUANTITY = 8, 65_535
-# Names of passages that are likely to mean none.
-NO_NAMES = ("0", "-", "--", ".", "n/a", "n.a.", "none", "null", "nil", "nan", "no")
+DEVIATIONS, LEAST_INFORMATION = (-2, -1, 0, 1, 2), 0.0005
+REFUSED, ENDS = 3, (".bank.csv", ".plan.txt", ".map.json", ".weights.txt")
 
 
 def options(words: Sequence[str]) -> argparse.Namespace:
@@ -118,96 +117,6 @@ def reading_of(given: argparse.Namespace) -> Reading:
 
 def dialect_of(given: argparse.Namespace) -> Dialect:
     return Dialect(SEPARATORS[given.separator], given.decimal == "comma")
-
-
-# ---------------------------------------------------------------- attributes
-
-def rows_of_attributes(path: str, dialect: Dialect, quantities: Sequence[str], warnings: List[str]) -> List[Tuple[int, Row]]:
-    """The rows of the table of attributes, numbers with points. A thousand with a comma is refused in a quantity; a warning names a
-    column of whole numbers and such commas alone, which are read as decimals."""
-    head, rows = read_table(path, dialect)
-    if "ID" not in head:
-        other = next((name for name in head if name.lower() == "id"), None)
-        raise Refused(f"{path}: line 1: no column ID" + (f"; rename the column {other}" if other else ""))
-    for line, row in rows:
-        for name in quantities:
-            refuse_thousand(f"{path}: line {line} column {name}", row.get(name, ""))
-    numbers = [name for name in number_columns(head, rows, dialect) if name not in ("ID", "STID")]
-    for name in numbers:
-        found = [(line, row[name]) for line, row in rows if "," in row[name]]
-        if found and all(THOUSAND.fullmatch(cell) for _, cell in found):
-            line, cell = found[0]
-            warnings.append(f"attribute {name}: {cell!r} (line {line}) is read as {cell.replace(',', '.', 1)}; write a thousand without a comma")
-    return with_numbers(rows, numbers, dialect)
-
-
-def read_attributes(path: str, items: Sequence[Item], rows: Sequence[Tuple[int, Row]]) -> List[str]:
-    """Gives each item its attributes and passage; the names of the passages."""
-    by_name, passages = {item.name: item for item in items}, []
-    for line, row in rows:
-        item = by_name.get(row["ID"])
-        if item is None:
-            raise Refused(f"{path}: line {line}: no item has the ID {row['ID']!r}{other_spelling(row['ID'], by_name)}")
-        if item.line:
-            raise Refused(f"{path}: line {line}: item {item.name} is in line {item.line} too")
-        item.line, item.attributes = line, row
-        passage = row.get("STID", "")
-        if passage not in ABSENT:
-            if passage not in passages:
-                passages.append(passage)
-            item.passage = passages.index(passage) + 1
-    for item in items:
-        if not item.line:
-            raise Refused(f"{path}: item {item.name} has no line")
-    if len(passages) > MOST_PASSAGES:
-        raise Refused(f"{path}: {len(passages)} passages; shadowd takes at most {MOST_PASSAGES}")
-    return passages
-
-
-def other_spelling(name: str, items: Iterable[str]) -> str:
-    """An item's ID that looks like a name, in words; an empty text where there is none."""
-    def key(text: str) -> str:
-        return unicodedata.normalize("NFKC", text).casefold()
-    found = next((one for one in items if key(one) == key(name)), None)
-    if found is None:
-        return ""
-    why = "capital letters" if unicodedata.normalize("NFC", found) != unicodedata.normalize("NFC", name) else "its form in Unicode"
-    return f" ({ascii(name)}); the items have {found!r} ({ascii(found)}), which differs by {why} alone"
-
-
-def passage_warnings(items: Sequence[Item], passages: Sequence[str], length: int) -> List[str]:
-    """Passages whose name looks like a word for none, and those with more items than a test."""
-    said = []
-    for number, name in enumerate(passages, 1):
-        count = sum(item.passage == number for item in items)
-        if name.casefold() in NO_NAMES:
-            said.append(f"passage {name!r} has {count} items, which are served one after another; only an empty field and NA are no passage")
-        elif count > length:
-            said.append(f"passage {name!r} has {count} items, more than a test of {length}")
-    return said
-
-
-def read_quantities(path: str, items: Sequence[Item], names: Sequence[str]) -> List[List[int]]:
-    """The values of each quantity by item."""
-    if names and not path:
-        raise Refused("--quantity needs --attributes")
-    if len(names) > MOST_QUANTITIES or len(set(names)) < len(names):
-        raise Refused(f"--quantity {' '.join(names)}: shadowd takes at most {MOST_QUANTITIES}, each once")
-    return [[quantity_of(path, item, name) for item in items] for name in names]
-
-
-def quantity_of(path: str, item: Item, name: str) -> int:
-    text = item.attributes.get(name)
-    if text is None:
-        raise Refused(f"{path}: there is no column {name}")
-    if re.fullmatch(r"[0-9]{1,9}(\.0*)?", text) and float(text) <= MOST_QUANTITY:
-        return int(float(text))
-    hint = ""
-    decimals = re.fullmatch(r"[0-9]+\.([0-9]*[1-9])0*", text)
-    if decimals:
-        hint = f" (multiply the column and its bounds by {10 ** len(decimals.group(1))})"
-    raise Refused(f"{path}: line {item.line}: item {item.name}: {name} is {text[:30]!r}, "
-                  f"not a whole number from 0 to {MOST_QUANTITY}{hint}")
 
 
 # ---------------------------------------------------------------- what is written
@@ -293,9 +202,9 @@ def explained(said: str, items: Sequence[Item], blueprint: Blueprint, plan: str)
     return said
 
 
-def checked(program: str, prefix: str, items: Sequence[Item], blueprint: Blueprint, plan: str) -> bool:
-    """Whether the program takes what was written; prints what it says."""
-    status, said = run(program, "check", prefix + ".bank.csv", prefix + ".plan.txt")
+def checked(program: Program, prefix: str, items: Sequence[Item], blueprint: Blueprint, plan: str) -> bool:
+    """Whether the program takes bank and plan; prints what it says."""
+    status, said = program.check(plan)
     if status or not said.startswith("bank items "):
         try:
             said = explained(said, items, blueprint, plan)
@@ -307,24 +216,40 @@ def checked(program: str, prefix: str, items: Sequence[Item], blueprint: Bluepri
     return True
 
 
-def first_forms(program: Program, tables: Tables, plan: str) -> int:
+def abilities_tried(examinees: Expected, tables: Tables) -> List[float]:
+    """The abilities at which forms are assembled: two standard deviations of the prior to each side, where the grid has them."""
+    return [ability for ability in map(examinees.at, DEVIATIONS) if tables.theta[0] <= ability <= tables.theta[-1]]
+
+
+def require_information(words: Sequence[str], tables: Tables, length: int) -> None:
+    """Refuses a bank whose best items inform 0.000 at each ability at which forms are assembled."""
+    tried = abilities_tried(expected_by(words, tables.theta), tables)
+    information = np.stack([item.information(tried, tables.scaling) for item in tables.items])
+    if np.sort(information, 0)[::-1][:length].sum(0).max() >= LEAST_INFORMATION:
+        return
+    places = [key_numbers(item)[1] for item in tables.items if item.model != FIELD]
+    said = f"difficulties are {min(places):g} to {max(places):g}" if places else "all items are in field test"
+    raise Refused(f"the items inform 0.000 at the abilities {', '.join(f'{one:g}' for one in tried)}; {said}. Parameters, --grid and --prior are "
+                  "in one metric: for T-scores give --grid 10 90 61 --prior 50 10")
+
+
+def first_forms(program: Program, tables: Tables, words: Sequence[str], plan: str) -> int:
     """Prints by priors at five abilities what a test can inform there. The status of the first that has no form, else 0."""
-    for mean in PRIOR_MEANS:
-        if not tables.theta[0] <= mean <= tables.theta[-1]:
-            continue
-        prior = "prior " + " ".join(map(str, log_prior([str(mean), "1"], tables.theta, tables.log_unit).tolist()))
+    examinees = expected_by(words, tables.theta)
+    for mean in abilities_tried(examinees, tables):
+        prior = "prior " + " ".join(map(str, log_prior([repr(mean), repr(examinees.deviation)], tables.theta, tables.log_unit).tolist()))
         status, said = program.assemble(re.sub(r"(?m)^prior .*$", prior, plan))
         if status == NO_FORM:
             print("no form: no set of items meets the constraints (status 11)", file=sys.stderr)
             print_clash(*clash(program, plan, said.split()[-1]), plan_of(plan).length, read_bank(program.bank), sys.stderr)
             return status
         if status == NOT_FOUND:
-            print(f"ability {mean:+d}: no form found within the base budget (status 12); raise --base-budget", file=sys.stderr)
+            print(f"ability {mean:+g}: no form found within the base budget (status 12); raise --base-budget", file=sys.stderr)
             return status
         if status != DONE:
             raise Refused(f"shadowd assemble, status {status}: {said[:60]}")
         form = form_of(said)
-        print(f"ability {mean:+d}: best form informs {form.objective / tables.information_unit:.3f}, "
+        print(f"ability {mean:+g}: best form informs {form.objective / tables.information_unit:.3f}, "
               f"standard error {math.sqrt(tables.information_unit / max(1, form.objective)):.3f}, "
               f"{'proved' if form.is_proved else 'unproved'} nodes {form.nodes}")
     return DONE
@@ -349,23 +274,22 @@ def blueprint_of(given: argparse.Namespace, items: List[Item]) -> Tuple[Blueprin
 
 def main(words: Sequence[str]) -> int:
     given = options(words)
-    require_folder("--out", given.out + ".bank.csv")
+    for end in ENDS if given.weights else ENDS[:3]:
+        require_folder("--out", given.out + end)
     items, _, form = read_items(given.items, reading_of(given))
     if form == "mirt" and given.scaling != 1:
         raise Refused(f"--scaling {given.scaling:g}: the intercepts of {given.items} are mirt's, whose D is 1; each slope would be "
                       f"{given.scaling:g} times as great")
     blueprint, quantities = blueprint_of(given, items)
     theta = ability_grid(given.grid, items, given.scaling, blueprint.length)
+    warnings = require_prior(given.prior, theta)
     tables = Tables(items, quantities, theta, given.scaling, given.information_unit, given.log_unit)
+    require_information(given.prior, tables, blueprint.length)
     bands = advice_of(given, tables, blueprint.length)
-    bank, plan, written = texts_of(given, tables, blueprint, bands.points)
-    warnings = blueprint.warnings + item_warnings(items, theta) + grid_warnings(given.prior, tables, blueprint.length)
+    texts = texts_of(given, tables, blueprint, bands.points)
+    warnings += blueprint.warnings + item_warnings(items, theta) + grid_warnings(given.prior, tables, blueprint.length)
     warnings += ([] if bands.points else rate_warnings(given.rate, blueprint.length, len(items))) + bands.warnings
     weights = weights_of(given.weights, theta) if given.weights else []
-    for end, text in ((".bank.csv", bank), (".plan.txt", plan), (".map.json", written)):
-        write(given.out + end, text)
-    if weights:
-        write(given.out + ".weights.txt", word_of(weights) + "\n")
     print_made(given, form, tables, blueprint)
     if weights:
         print("weights: " + ", ".join(f"{weight} at {theta[g]:g}" for g, weight in enumerate(weights) if weight))
@@ -373,7 +297,11 @@ def main(words: Sequence[str]) -> int:
         print(line)
     for warning in warnings:
         print("warning: " + warning, file=sys.stderr)
-    return tried(given, tables, blueprint, plan)
+    status = tried(given, tables, blueprint, *texts[:2])
+    if status != REFUSED:
+        for end, text in zip(ENDS, texts + ((word_of(weights) + "\n",) if weights else ())):
+            write(given.out + end, text)
+    return status
 
 
 def print_made(given: argparse.Namespace, form: str, tables: Tables, blueprint: Blueprint) -> None:
@@ -388,15 +316,17 @@ def print_made(given: argparse.Namespace, form: str, tables: Tables, blueprint: 
     print(f"rounding to whole numbers: information by at most {tables.worst:.5f}, logarithms by {0.5 / given.log_unit:.5f}")
 
 
-def tried(given: argparse.Namespace, tables: Tables, blueprint: Blueprint, plan: str) -> int:
-    """Lets the program check what was written, and assemble forms. The exit status."""
+def tried(given: argparse.Namespace, tables: Tables, blueprint: Blueprint, bank: str, plan: str) -> int:
+    """Lets the program check bank and plan, and assemble forms, before anything is written. The exit status."""
     path = given.program or (BUILT if os.path.exists(BUILT) else None)
     if not path:
         print("not checked: there is no built program (--program SHADOWD)")
         return NO_FORM if blueprint.clashes else DONE
-    if not checked(path, given.out, tables.items, blueprint, plan):
-        return 3
-    return first_forms(Program(path, given.out + ".bank.csv"), tables, plan)
+    with tempfile.TemporaryDirectory() as folder:
+        program = Program(path, written(folder, "bank", bank))
+        if not checked(program, given.out, tables.items, blueprint, plan):
+            return REFUSED
+        return first_forms(program, tables, given.prior, plan)
 
 
 command = as_command(main)

@@ -34,10 +34,15 @@ def form_of(said: str) -> Form:
 
 
 class Program:
-    """`assemble` of one bank, with any plan."""
+    """The program over one bank, with any plan."""
 
     def __init__(self, path: str, bank: str) -> None:
         self.path, self.bank, self.runs = path, bank, 0
+
+    def check(self, plan: str) -> Tuple[int, str]:
+        """Status and output of `check` for the text of a plan."""
+        with tempfile.TemporaryDirectory() as folder:
+            return run(self.path, "check", self.bank, written(folder, "plan", plan))
 
     def assemble(self, plan: str) -> Tuple[int, str]:
         """Status and output for the text of a plan."""

@@ -10,11 +10,12 @@ usage: report.py PREFIX --run OUT --to REPORT.html [options]
                                  how scores are reported, as score.py has them: the page has error, reliability and decisions of
                                  the scores that examinees get. The cuts are scores, all else on the page is in logits
   --record FILE                  the same from a record of score.py, in the place of these options
-  --bands T ..                   edges of ability bands in logits, for exposure, overlap and error; default -2 -1 0 1 2, and each
-                                 ability where there are at most 20
+  --bands T ..                   edges of ability bands in logits, for exposure, overlap and error; default 2 and 1 standard deviations
+                                 of the prior to each side of its mean, and that (-2 -1 0 1 2); each ability where there are at most 20
   --by truth|estimate            whether the bands of exposure and overlap are of the true ability (default) or the estimate
   --watch P ..                   the rates in bands of the estimate that begin at these points of the grid; default the plan's bands
-  --between LOW HIGH             abilities in logits between which the page states the standard error; default -1 1
+  --between LOW HIGH             abilities in logits between which the page states the standard error; default a standard deviation of
+                                 the prior to each side of its mean (-1 1)
   --rules PLAN                   counts the rules of another plan for the same bank
   --unbound                      takes a plan that does not name its map by its SHA-256, as irt_bank.py wrote it up to version 0.12.0;
                                  the page names it
@@ -45,6 +46,7 @@ import numpy as np  # noqa: E402
 import pandas as pd  # noqa: E402
 
 from shadowtools.agency.custody import sha256_of  # noqa: E402
+from shadowtools.agency.expected import unit_of  # noqa: E402
 from shadowtools.agency.retakers import Retakes, retakes_of  # noqa: E402
 from shadowtools.agency.scoring import (OPTIONS, SHORT_NAMES, Scorer, add_reporting, reporting_of,  # noqa: E402
                                         reporting_of_record)
@@ -66,7 +68,7 @@ from shadowtools.page.verdicts import verdicts  # noqa: E402
 TEMPLATE = os.path.join(os.path.dirname(os.path.dirname(os.path.abspath(__file__))), "page", "report.html")
 # The options that are about a simulation alone, with what they are where they are not given.
 OF_A_RUN = {"estimate": None, "scale": None, "obtainable": None, "cuts": [], "levels": None, "decimals": None, "record": None,
-            "bands": None, "watch": None, "by": "truth", "between": [-1.0, 1.0], "rules": None, "picture": None}
+            "bands": None, "watch": None, "by": "truth", "between": None, "rules": None, "picture": None}
 
 
 def options(words: Sequence[str]) -> argparse.Namespace:
@@ -79,7 +81,7 @@ def options(words: Sequence[str]) -> argparse.Namespace:
     parser.add_argument("--bands", nargs="+", type=finite)
     parser.add_argument("--watch", nargs="+", type=whole(0, 60))
     parser.add_argument("--by", choices=("truth", "estimate"), default="truth")
-    parser.add_argument("--between", nargs=2, type=finite, default=[-1.0, 1.0])
+    parser.add_argument("--between", nargs=2, type=finite)
     parser.add_argument("--template", default=TEMPLATE)
     parser.add_argument("--unbound", action="store_true")
     found = parser.read(words, lambda found: bool(found.prefix and found.to and (found.run or found.series)))
@@ -95,9 +97,9 @@ def options(words: Sequence[str]) -> argparse.Namespace:
 
 def questions(given: argparse.Namespace) -> Questions:
     """What is asked of the page. Refused are numbers that do not ascend, and a target that is none."""
-    for name, values in (("bands", given.bands or []), ("between", given.between)):
+    for name, values in (("bands", given.bands or []), ("between", given.between or [])):
         if (np.diff(values) <= 0).any():
-            raise Refused(f"--{name} {' '.join(map(str, values))}: abilities in logits that ascend")
+            raise Refused(f"--{name} {' '.join(map(str, values))}: abilities that ascend")
     if given.target and len(given.target) not in (1, 3):
         raise Refused(f"--target {' '.join(given.target)}: a file, or LOW HIGH INFORMATION")
     return Questions(target_of(given.target), given.bands, given.by == "estimate", given.between)
@@ -106,10 +108,11 @@ def questions(given: argparse.Namespace) -> Questions:
 def require_abilities(given: argparse.Namespace, examination: Examination, run: dict) -> None:
     """Refuses edges of bands, and abilities of --between, that are neither on the grid nor among the true abilities."""
     low, high = (end([*examination.map["theta"], *run["true"]]) for end in (min, max))
-    for name, values in (("bands", given.bands or []), ("between", given.between)):
+    for name, values in (("bands", given.bands or []), ("between", given.between or [])):
         for value in values:
-            if not low <= value <= high and getattr(given, name) != OF_A_RUN[name]:
-                raise Refused(f"--{name} {value:g}: abilities in logits, here {low:.4g} to {high:.4g}; a score on another scale is none")
+            if not low <= value <= high:
+                raise Refused(f"--{name} {value:g}: abilities in {unit_of(examination.map['theta'])}, here {low:.4g} to {high:.4g}; a score on "
+                              "another scale is none")
 
 
 # ---------------------------------------------------------------- what is read

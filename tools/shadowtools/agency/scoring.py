@@ -205,7 +205,7 @@ def scale_of(asked: Reporting, theta: Sequence[float]) -> Scale:
 
 def words_of(scale: Sequence[float]) -> str:
     """A scale in words."""
-    return "of ability in logits" if list(scale) == [0.0, 1.0] else f"{scale[0]:g} + {scale[1]:g} × ability"
+    return "of ability" if list(scale) == [0.0, 1.0] else f"{scale[0]:g} + {scale[1]:g} × ability"
 
 
 class Scorer:

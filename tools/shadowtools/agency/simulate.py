@@ -4,13 +4,14 @@ usage: simulate.py PREFIX --out OUT [options]      PREFIX.bank.csv, PREFIX.plan.
 
   --examinees N     default 1000; at most 65,536 with those of the tails
   --seed N          default 1: the same seed gives the same abilities and answers
-  --true ..         normal MEAN SD (default normal 0 1), uniform LOW HIGH, or points T T .. with equal numbers: a conditional
+  --true ..         normal MEAN SD (default those of the plan's prior; with a flat one the middle of the grid and an eighth of its
+                    width), uniform LOW HIGH, or points T T .. with equal numbers: a conditional
                     simulation, for which report.py gives exposure and error at each point. `turns T T ..` takes the points in
                     turn, as a rate is steered where examinees of all abilities come. `--true bands` takes in turn the middle of
                     each band: the ability that halves the prior within it
   --watch P P ..    counts the rates in the bands that begin at these points of the grid, in the place of the plan's
-  --tails T T ..    abilities at which more examinees are taken through after the others; default -3 -2.5 -2 2 2.5 3, none
-                    where --true names points. They show the ends of the scale, and count in no total. `--tails none`
+  --tails T T ..    abilities at which more examinees are taken through after the others; default 3, 2.5 and 2 standard deviations
+                    of the prior to each side of its mean (-3 -2.5 -2 2 2.5 3), none where --true names points. They show the ends of the scale, and count in no total. `--tails none`
   --each N          how many at each of them; default 1 for each 40 examinees
   --retakers SHARE  a share of the examinees, from 0 to 1, that sit twice; default 0. Each second sitting is begun without the items
                     of the first, after all first sittings. Its answers are drawn anew: nobody remembers an item, or has learnt
@@ -69,7 +70,7 @@ from shadowtools.places import BUILT, TOP  # noqa: E402
 
 MOST_SESSIONS, MOST_BYTES = 65_536, 536_870_912
 MEMORY = "/dev/shm"
-TAILS = ["-3", "-2.5", "-2", "2", "2.5", "3"]
+TAILS = (-3, -2.5, -2, 2, 2.5, 3)    # standard deviations
 
 
 def options(words: Sequence[str]) -> argparse.Namespace:
@@ -79,7 +80,7 @@ def options(words: Sequence[str]) -> argparse.Namespace:
         parser.add_argument("--" + name)
     parser.add_argument("--examinees", type=whole(1, MOST_SESSIONS), default=1000)
     parser.add_argument("--seed", type=whole(0, MOST_SEED), default=1)
-    parser.add_argument("--true", nargs="+", default=["normal", "0", "1"])
+    parser.add_argument("--true", nargs="+")
     parser.add_argument("--watch", nargs="+", type=whole(0, 60))
     parser.add_argument("--tails", nargs="+")
     parser.add_argument("--each", type=whole(1, MOST_SESSIONS))
@@ -93,14 +94,14 @@ def options(words: Sequence[str]) -> argparse.Namespace:
     return parser.read(words, lambda found: bool(found.prefix and found.out))
 
 
-def tails_of(given: argparse.Namespace) -> List[float]:
+def tails_of(given: argparse.Namespace, examination: Examination) -> List[float]:
     """The true abilities of the examinees of the tails."""
-    words = given.tails or (["none"] if given.true[0] in ("points", "turns", "bands") else TAILS)
-    if words == ["none"]:
+    if given.tails == ["none"] or not given.tails and given.true[0] in ("points", "turns", "bands"):
         return []
-    points = abilities_of(words)
+    points = abilities_of(given.tails, examination.widest) if given.tails else list(map(examination.expected.at, TAILS))
     if not points:
-        raise Refused(f"--tails {' '.join(words)}: abilities from -6 to 6, or none")
+        low, high = examination.widest
+        raise Refused(f"--tails {' '.join(given.tails)}: abilities from {low:g} to {high:g}, or none")
     found = np.repeat(points, given.each or -(-given.examinees // 40)).tolist()
     if given.examinees + len(found) > MOST_SESSIONS:
         raise Refused(f"{given.examinees} examinees and {len(found)} of the tails are more than {MOST_SESSIONS}; --tails none")
@@ -309,7 +310,7 @@ def print_bands(examination: Examination, counts: Exposure) -> None:
 
 def main(words: Sequence[str]) -> int:
     given = options(words)
-    tails, retakers = tails_of(given), retakers_of(given.examinees, given.retakers, given.seed)
+    retakers = retakers_of(given.examinees, given.retakers, given.seed)
     if given.no_lists and not retakers:
         raise Refused("--no-lists is for second sittings: give --retakers")
     if given.examinees + len(retakers) > MOST_SESSIONS:
@@ -317,11 +318,12 @@ def main(words: Sequence[str]) -> int:
     for end in (".journal", ".second.journal", ".tails.journal", ".run.json"):
         require_folder("--out", given.out + end)
     examination = load(given.prefix, given.unbound)
-    rules = rules_of(given.rules, examination)
+    given.true = given.true or ["normal", *(f"{number:g}" for number in examination.expected)]
+    tails, rules = tails_of(given, examination), rules_of(given.rules, examination)
     require_points(given.watch or [], len(examination.theta), "--watch")
     if given.true == ["bands"]:
         given.true = ["turns", *(f"{point:.4g}" for point in middles(examination, given.watch or examination.plan.points))]
-    theta = np.concatenate([abilities(given.true, given.examinees, given.seed), tails])
+    theta = np.concatenate([abilities(given.true, given.examinees, given.seed, examination.widest), tails])
     line = said_by(given.program, "check", *examination.files())[0]
     stages = stages_of(given, examination, theta, retakers)
     for end in (".second.journal", ".tails.journal"):

@@ -11,13 +11,14 @@ from typing import Dict, List, Optional, Sequence, Tuple
 import numpy as np
 
 from shadowtools.agency.custody import read_documents
+from shadowtools.agency.expected import Expected, expected_by
 from shadowtools.agency.irt import DICHOTOMOUS, FIELD, POLYTOMOUS, Item, fault
 from shadowtools.agency.scoring import moments, posterior_sums
 from shadowtools.command import Refused
 from shadowtools.formats.examination import BankItem, Plan, Rule, Session, bands_of, is_finite, json_of, read_plan, require_agreement
 from shadowtools.formats.tables import is_number
 
-FINE = np.linspace(-6, 6, 1201)
+FINE = np.linspace(-6, 6, 1201)    # of N(0, 1), on a grid in logits
 MOST_SEED = 2 ** 63 - 1
 
 
@@ -35,6 +36,16 @@ class Examination:
     @property
     def theta(self):
         return np.array(self.map["theta"])
+
+    @property
+    def expected(self) -> Expected:
+        """The examinees that the plan expects."""
+        return expected_by(self.map["prior"], self.map["theta"])
+
+    @property
+    def widest(self) -> Tuple[float, float]:
+        """The abilities between which simulations are."""
+        return self.expected.widest(self.map["theta"])
 
     @property
     def scaling(self):
@@ -71,15 +82,16 @@ def rules_of(path: Optional[str], examination: Examination) -> List[Rule]:
 
 # ---------------------------------------------------------------- examinees
 
-def abilities(words: Sequence[str], number: int, seed: int) -> np.ndarray:
+def abilities(words: Sequence[str], number: int, seed: int, widest: Tuple[float, float] = (FINE[0], FINE[-1])) -> np.ndarray:
     """True abilities: normal MEAN SD, uniform LOW HIGH, points T T .. with equal numbers at each, one point after the other, or
-    turns T T .. with the same in turn."""
+    turns T T .. with the same in turn. They are within `widest`, and a standard deviation is at most half as wide."""
     if not 0 <= seed <= MOST_SEED:
         raise Refused(f"--seed {seed}: 0 to {MOST_SEED}")
     rng = np.random.default_rng([seed, 1])
-    numbers = abilities_of(words[1:])
-    if words[0] == "normal" and len(numbers) == 2 and numbers[1] >= 0:
-        return rng.normal(*numbers, number)
+    if words[0] == "normal" and len(words) == 3 and abilities_of(words[1:2], widest) and is_number(words[2]):
+        if 0 <= float(words[2]) <= (widest[1] - widest[0]) / 2:
+            return rng.normal(float(words[1]), float(words[2]), number)
+    numbers = abilities_of(words[1:], widest)
     if words[0] == "uniform" and len(numbers) == 2 and numbers[0] <= numbers[1]:
         return rng.uniform(*numbers, number)
     if words[0] == "points" and numbers:
@@ -87,13 +99,13 @@ def abilities(words: Sequence[str], number: int, seed: int) -> np.ndarray:
     if words[0] == "turns" and numbers:
         return np.resize(numbers, number)
     raise Refused(f"--true {' '.join(words)}: normal MEAN SD, uniform LOW HIGH, points T T .. or turns T T .., with abilities from "
-                  "-6 to 6 and an SD of 0 to 6")
+                  f"{widest[0]:g} to {widest[1]:g} and an SD of 0 to {(widest[1] - widest[0]) / 2:g}")
 
 
-def abilities_of(words: Sequence[str]) -> List[float]:
-    """The words as numbers from -6 to 6, the range of the fine grid; none where a word is no such number."""
+def abilities_of(words: Sequence[str], widest: Tuple[float, float] = (FINE[0], FINE[-1])) -> List[float]:
+    """The words as numbers within a range; none where a word is no such number."""
     numbers = [float(word) for word in words if is_number(word)]
-    return numbers if len(numbers) == len(words) and all(-6 <= number <= 6 for number in numbers) else []
+    return numbers if len(numbers) == len(words) and all(widest[0] <= number <= widest[1] for number in numbers) else []
 
 
 def band_names(theta: np.ndarray, points: Sequence[int]) -> List[str]:
@@ -160,16 +172,17 @@ def grid_sums(examination: Examination, items: Sequence[int], responses: Sequenc
 def estimates(examination: Examination, sessions: Sequence[Session]) -> Estimates:
     """All estimates of the sessions from the same answers. The MLE is kept on the grid's range; mode, mean and SD are from the
     bank's whole numbers."""
-    exact = [np.log(np.maximum(item.probabilities(FINE, examination.scaling), 1e-300)) for item in examination.items]
-    prior = prior_on(examination.map["prior"], FINE)
+    fine = np.linspace(*examination.widest, len(FINE))
+    exact = [np.log(np.maximum(item.probabilities(fine, examination.scaling), 1e-300)) for item in examination.items]
+    prior = prior_on(examination.map["prior"], fine)
     theta = examination.theta
-    inside = (FINE >= theta[0] - 1e-9) & (FINE <= theta[-1] + 1e-9)
+    inside = (fine >= theta[0] - 1e-9) & (fine <= theta[-1] + 1e-9)
     rows = []
     for session in sessions:
         like = sum(exact[i][r] for i, r in zip(session.items, session.responses))
         sums = posterior_sums(examination.bank, examination.plan.prior, session.items, session.responses)
-        rows.append([theta[np.argmax(sums)], FINE[(like + prior).argmax()],
-                     *moments(sums, examination.map["theta"], examination.map["log_unit"]), FINE[inside][like[inside].argmax()]])
+        rows.append([theta[np.argmax(sums)], fine[(like + prior).argmax()],
+                     *moments(sums, examination.map["theta"], examination.map["log_unit"]), fine[inside][like[inside].argmax()]])
     return Estimates(*np.array(rows).T)
 
 

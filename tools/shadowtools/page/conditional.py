@@ -5,7 +5,7 @@ from shadowtools.page import pictures
 from shadowtools.page.parts import Note, Pictures, Section, Table
 from shadowtools.page.study import Study, estimates_of
 
-HEAD = ["Band", "Estimates (logits)", "Visits", "Share of the tests", "Greatest rate", "Item", "Above the rate", "Never shown",
+HEAD = ["Visits", "Share of the tests", "Greatest rate", "Item", "Above the rate", "Never shown",
         "Never eligible", "Set aside", "At steps"]
 
 
@@ -35,5 +35,5 @@ def table(study: Study) -> Table:
             of_items = [f"{rates.max():.3f}", study.names[rates.argmax()], f"{above}", f"{(rates == 0).sum()}", f"{(eligible == 0).sum()}"]
         rows.append([f"{band}", name, f"{counts.visited:,}", f"{counts.visited / study.counts.total.visited:.1%}", *of_items,
                      f"{counts.aside:,}", steps])
-    return Table(HEAD, rows, f"Rates in each band, of {len(study.items)} items; the rate of the plan is {study.rate:.3f}",
+    return Table(["Band", f"Estimates ({study.unit})", *HEAD], rows, f"Rates in each band, of {len(study.items)} items; the rate of the plan is {study.rate:.3f}",
                  texts=2, marked=frozenset(marked))

@@ -57,7 +57,7 @@ def standard_errors(study: Study) -> Picture:
     below(axes)
     said = f"from {line.min():.2f} at {plain(round(at[line.argmin()], 1))} to {line.max():.2f} at {plain(round(at[line.argmax()], 1))}"
     return picture(figure, "Standard error by ability, from the information of the items that were given",
-                   f"The standard error of the tests by true ability, in logits: in the mean {said}.")
+                   f"The standard error of the tests by true ability, in {study.unit}: in the mean {said}.")
 
 
 def draw_standard_errors(study: Study, axes):
@@ -70,7 +70,7 @@ def draw_standard_errors(study: Study, axes):
     if target:
         wide = np.linspace(target.abilities[0], target.abilities[-1], 121)
         axes.plot(wide, standard_error(target.information(wide)), "--", color=RED, label="target, at most")
-    axes.set(xlabel="true ability (logits)", ylabel="standard error (logits)", ylim=(0, 1.1 * max(line.max(), bands.rmse.max())))
+    axes.set(xlabel=f"true ability ({study.unit})", ylabel=f"standard error ({study.unit})", ylim=(0, 1.1 * max(line.max(), bands.rmse.max())))
     return at, line
 
 
@@ -86,7 +86,7 @@ def information(study: Study) -> Picture:
     if target:
         wide = np.linspace(target.abilities[0], target.abilities[-1], 121)
         axes.plot(wide, target.information(wide), "--", color=RED, label="target, at least")
-    axes.set(xlabel="true ability (logits)", ylabel="information (1 / logits²)", ylim=(0, None))
+    axes.set(xlabel=f"true ability ({study.unit})", ylabel=f"information (1 / {study.unit}²)", ylim=(0, None))
     below(axes)
     return picture(figure, "Information by ability, beside the best items of the bank",
                    f"The information of the tests by true ability: in the mean at most {line.max():.1f}; "
@@ -99,7 +99,7 @@ def recovery(study: Study) -> Picture:
     axes.plot(sample.true, sample.theta, ".", ms=3, color=BLUE, alpha=0.45, label="an examinee")
     corners = [min(sample.true.min(), sample.theta.min()), max(sample.true.max(), sample.theta.max())]
     axes.plot(corners, corners, "-", color="k", lw=0.8, label="estimate = truth")
-    axes.set(xlabel="true ability (logits)", ylabel=f"{study.short_name} (logits)")
+    axes.set(xlabel=f"true ability ({study.unit})", ylabel=f"{study.short_name} ({study.unit})")
     axes.set_aspect("equal", adjustable="datalim")
     below(axes)
     return picture(figure, "Estimate beside truth",
@@ -114,11 +114,11 @@ def bias(study: Study) -> Picture:
             axes.errorbar(some.ability, some.bias, 1.96 * some.bias_error.fillna(0), fmt=marker, ms=5, capsize=3, lw=1.2,
                           color=BLUE, mfc=BLUE if marker == "o" else "none", label=label)
     axes.axhline(0, color="k", lw=0.8)
-    axes.set(xlabel="true ability (logits)", ylabel=f"bias of the {study.short_name} (logits)")
+    axes.set(xlabel=f"true ability ({study.unit})", ylabel=f"bias of the {study.short_name} ({study.unit})")
     below(axes)
     worst = bands.loc[bands.bias.abs().idxmax()]
     return picture(figure, "Bias by ability with 95 % intervals",
-                   f"The bias of the estimate by true ability; the greatest is {plain(round(worst.bias, 2))} logits, {worst.band}.")
+                   f"The bias of the estimate by true ability; the greatest is {plain(round(worst.bias, 2))} {study.unit}, {worst.band}.")
 
 
 # ---------------------------------------------------------------- exposure
@@ -148,7 +148,7 @@ def exposure_by_band(study: Study) -> Picture:
 
 
 def band_axis(study: Study) -> str:
-    return f"{study.short_name} (logits)" if study.questions.by_estimate else "true ability (logits)"
+    return f"{study.short_name} ({study.unit})" if study.questions.by_estimate else f"true ability ({study.unit})"
 
 
 def rate_line(study: Study, axes) -> None:
@@ -181,7 +181,7 @@ def exposure_by_information(study: Study) -> Picture:
     best = [item.information(theta, scaling).max() for item in study.items]
     axes.plot(best, study.exposure(study.sample), ".", ms=6, color=BLUE, alpha=0.7)
     rate_line(study, axes)
-    axes.set(xlabel="greatest information of the item (1 / logits²)", ylabel="share of the tests")
+    axes.set(xlabel=f"greatest information of the item (1 / {study.unit}²)", ylabel="share of the tests")
     return picture(figure, "Exposure beside information",
                    "The exposure of each item by its greatest information.")
 
@@ -237,9 +237,9 @@ def path(study: Study, row: int) -> Picture:
     axes.set_xticks(steps[:-1] + 0.5, [f"{study.names[item]}: {response}" for item, response in zip(session.items, session.responses)],
                     rotation=90)
     low, high = (mean - deviation).min(), (mean + deviation).max()
-    axes.set(ylabel="ability (logits)", xlim=(-0.3, len(steps) - 0.7), ylim=(min(low, true) - 0.3, max(high, true) + 0.3))
+    axes.set(ylabel=f"ability ({study.unit})", xlim=(-0.3, len(steps) - 0.7), ylim=(min(low, true) - 0.3, max(high, true) + 0.3))
     axes.legend(loc="upper center", bbox_to_anchor=(0.5, 1.24), ncol=4, columnspacing=1.2)
-    return picture(figure, f"Examinee {session.booking}, true ability {plain(round(true, 2))} logits: the items in order, each with the "
+    return picture(figure, f"Examinee {session.booking}, true ability {plain(round(true, 2))} {study.unit}: the items in order, each with the "
                    "response", f"The estimate of examinee {session.booking} over {len(session.items)} items: at the end "
                    f"{plain(round(mean[-1], 2))}, with the standard deviation {deviation[-1]:.2f}.", wide=True)
 

@@ -11,7 +11,7 @@ from shadowtools.formats.examination import Rule
 from shadowtools.page import conditional, pictures, retakers
 from shadowtools.page.measures import accuracy, consistency, level_chances, levels, standard_error
 from shadowtools.page.parts import UNBOUND, Facts, Note, Pictures, Section, Table, Text
-from shadowtools.page.study import (Study, fixed, interval_names, is_in_logits, names_of_cuts, plain, reliability_of, signed,
+from shadowtools.page.study import (Study, fixed, interval_names, is_of_ability, names_of_cuts, plain, reliability_of, signed,
                                     table_by_band, table_by_item)
 
 ESTIMATES = {"mode": "mode on the grid (shadowd)", "map": "continuous mode", "eap": "mean (EAP)",
@@ -41,7 +41,7 @@ def identity(study: Study) -> Section:
                      f"quantities: {', '.join(found['quantities']) or 'none'}"),
             ("Test", f"items: {study.length}; rules: {len(study.rules)}; exposure rate: {rate(study)}"),
             ("Examinees", examinees),
-            ("Ability", f"{len(found['theta'])} points from {plain(found['theta'][0])} to {plain(found['theta'][-1])} logits; "
+            ("Ability", f"{len(found['theta'])} points from {plain(found['theta'][0])} to {plain(found['theta'][-1])} {study.unit}; "
                         f"D {found['D']:g}; prior {prior}"),
             ("Reported score", reported(study)),
             ("Units", f"{found['information_unit']:g} for one unit of information, {found['log_unit']:g} for one natural logarithm"),
@@ -124,7 +124,7 @@ def rule_row(study: Study, group: Sequence[Rule], bad: int) -> List[str]:
 def precision(study: Study) -> Section:
     people = study.people.iloc[study.sample]
     mean, share = people.information.mean(), (people.information / study.best[study.sample]).mean()
-    rows = [("Mean information at the true ability", fixed(mean)), ("Standard error from it", f"{standard_error(mean):.3f} logits"),
+    rows = [("Mean information at the true ability", fixed(mean)), ("Standard error from it", f"{standard_error(mean):.3f} {study.unit}"),
             ("Mean share of the best information without rules", f"{share:.1%}")]
     target = study.questions.target
     if target:
@@ -134,7 +134,7 @@ def precision(study: Study) -> Section:
               fixed(row.reported_error), fixed(row.standard_error)] for row in table.itertuples()]
     return Section("precision", "Precision by ability", [
         Pictures([pictures.standard_errors(study), pictures.information(study)]), Facts(rows),
-        Table(["True ability (logits)", "Examinees", f"Bias ({study.short_name})", "Its standard error", f"RMSE ({study.short_name})",
+        Table([f"True ability ({study.unit})", "Examinees", f"Bias ({study.short_name})", "Its standard error", f"RMSE ({study.short_name})",
                mean_error_of(study), "Standard error"], cells),
         Note("The standard error is 1 / √(mean information at the true ability) of the items that were given (Lord 1980). The lines are "
              "the best information of the bank times the mean share of it that the tests near each ability have, the tails with "
@@ -157,7 +157,7 @@ def recovery(study: Study) -> Section:
         rows.append([words, signed(errors.mean()), fixed(np.sqrt((errors ** 2).mean())), fixed(errors.abs().mean()), correlation])
     parts = [Pictures([pictures.recovery(study), pictures.bias(study)]),
              Table(["Estimate, from the same answers", "Bias", "RMSE", "Mean absolute error", "Correlation with the truth"], rows)]
-    said = "RMSE is the root mean square error, all in logits. "
+    said = f"RMSE is the root mean square error, all in {study.unit}. "
     if len(people) > 1:
         said += f"The standard error of a bias here is about {(people['mode'] - people.true).std() / np.sqrt(len(people)):.3f}. "
     parts.append(Note(f"{said}shadowd chooses items at the mode on the grid. Reported is the {NAMES[estimate]}, by the same function as "
@@ -200,7 +200,7 @@ def table_of_cuts(study: Study) -> Table:
         agreement, kappa = consistency(chances)
         rows.append([name, f"{(true == found).mean():.1%}", f"{(found > true).mean():.1%}", f"{(found < true).mean():.1%}",
                      f"{accuracy(chances, true):.1%}", f"{agreement:.1%}", fixed(kappa)])
-    return Table([f"Cut score ({'logits' if is_in_logits(study) else words_of(study.scorer.asked.scale)})", "In the true level", "Above it", "Below it", "Accuracy by formula",
+    return Table([f"Cut score ({study.unit if is_of_ability(study) else words_of(study.scorer.asked.scale)})", "In the true level", "Above it", "Below it", "Accuracy by formula",
                   "Consistency by formula", "Kappa"], rows)
 
 
@@ -263,7 +263,7 @@ def most_shown(study: Study) -> Table:
 
 def exposure_table(study: Study) -> Table:
     table = table_by_band(study, study.bands)
-    head = ["Band (logits)", "Tests", "Greatest exposure", "Item", "Never shown", "Mean overlap"]
+    head = [f"Band ({study.unit})", "Tests", "Greatest exposure", "Item", "Never shown", "Mean overlap"]
     rows = [[row.band + (" (tails)" if row.added else ""), f"{row.examinees:,}", fixed(row.greatest_exposure), row.most_shown,
              f"{row.never_shown}", fixed(row.overlap)] for row in table.itertuples()]
     if study.controlled:
@@ -336,7 +336,7 @@ def items(study: Study) -> Section:
     table = table_by_item(study)
     passages = bool(study.examination.map["passages"])
     head = ["Item"] + (["Passage"] if passages else []) + [
-        "Shown", "Exposure", "Eligible", "Greatest information", "At (logits)", "Mean step"]
+        "Shown", "Exposure", "Eligible", "Greatest information", f"At ({study.unit})", "Mean step"]
     rows = [[row.item] + ([row.passage] if passages else []) + [
         f"{row.shown:,}" if row.shown else "never", fixed(row.exposure), fixed(row.eligible), fixed(row.greatest_information),
         fixed(row.at_ability, 1), fixed(row.mean_step, 1)] for row in table.itertuples()]

@@ -7,6 +7,7 @@ from typing import Iterator, List, Optional, Sequence, Tuple
 
 import numpy as np
 
+from shadowtools.agency.expected import unit_of
 from shadowtools.agency.irt import FIELD
 from shadowtools.agency.simulation import Examination
 from shadowtools.checkers import check_series, check_tree
@@ -40,6 +41,7 @@ class Series:
         self.forms = [[int(word) for word in line.split(" ")[1:]] for line in lines if line.startswith("form ")]
         self.most = next((int(line.split(" ")[2]) for line in lines if line.startswith("at most ")), None)
         self.unit, self.length, self.theta = examination.map["information_unit"], examination.plan.length, examination.theta
+        self.ability_unit = unit_of(examination.map["theta"])
         self.at = [g for g, weight in enumerate(weights) if weight]
         self.table = np.array([item.information for item in examination.bank]) / self.unit
         self.information = np.array([self.table[form].sum(0) for form in self.forms])
@@ -147,7 +149,7 @@ def precision_verdict(series: Series) -> Verdict:
     errors = listed([fixed(float(standard_error(value)), 2) for value in least])
     each = "each form has at least the information" if len(series.forms) > 1 else "the form has the information"
     most = "at most " if len(series.forms) > 1 else ""
-    return Verdict(MEASURED, f"At the {abilities(series)} {each} {values}: a standard error of {most}{errors} logits.")
+    return Verdict(MEASURED, f"At the {abilities(series)} {each} {values}: a standard error of {most}{errors} {series.ability_unit}.")
 
 
 def alike_verdict(series: Series) -> Verdict:
@@ -202,7 +204,7 @@ def identity(series: Series, facts: Sequence[Tuple[str, str]], digests: Sequence
             ("Weights", weights),
             ("Value", f"{series.value:,}: the least of weight times information over the forms and the weighted abilities, in whole units"),
             ("No series is above", f"{series.value:,}, proved" if series.is_proved else "not known" if series.most is None else f"{series.most:,}"),
-            ("Ability", f"{len(series.theta)} points from {plain(series.theta[0])} to {plain(series.theta[-1])} logits; D {found['D']:g}"),
+            ("Ability", f"{len(series.theta)} points from {plain(series.theta[0])} to {plain(series.theta[-1])} {series.ability_unit}; D {found['D']:g}"),
             ("Units", f"{series.unit:g} for one unit of information"), *facts]
     return Section("identity", "What was assembled", [Facts(rows), Facts([(f"SHA-256, {name}", value) for name, value in digests], "digests")])
 
@@ -210,14 +212,14 @@ def identity(series: Series, facts: Sequence[Tuple[str, str]], digests: Sequence
 def information(series: Series) -> Section:
     shown = [curves(series), errors(series)]
     if len(series.forms) > 1:
-        shown += [differences(series, series.information, "difference (1 / logits²)", "Information of each form, less the mean of the forms"),
+        shown += [differences(series, series.information, f"difference (1 / {series.ability_unit}²)", "Information of each form, less the mean of the forms"),
                   differences(series, series.points, "difference (points)", "Expected points of each form, less the mean of the forms")]
     head = ["Ability", "Weight", "Target"] + names(series)
     tables = [Table(head, [[plain(round(series.theta[g], 3)), str(series.weights[g]), fixed(asked, 3)] + [fixed(form[g], 3) for form in series.information]
                            for g, asked in zip(series.at, series.asked)], "Information"),
               Table(head, [[plain(round(series.theta[g], 3)), str(series.weights[g]), fixed(float(standard_error(asked)), 3)]
                            + [fixed(float(standard_error(form[g])), 3) for form in series.information]
-                           for g, asked in zip(series.at, series.asked)], "Standard error (logits)"),
+                           for g, asked in zip(series.at, series.asked)], f"Standard error ({series.ability_unit})"),
               Table(["Ability"] + names(series), [[plain(round(series.theta[g], 3))] + [fixed(form[g], 2) for form in series.points] for g in series.at],
                     f"Expected points, of {most_points(series)}")]
     return Section("information", "Information", [Pictures(shown), *tables, Note(
@@ -290,7 +292,7 @@ def curves(series: Series) -> Picture:
     if series.target:
         wide = np.linspace(series.target.abilities[0], series.target.abilities[-1], 121)
         axes.plot(wide, series.target.information(wide), color=pictures.GREY, lw=2.4, label="target asked, at least")
-    axes.set(xlabel="ability (logits)", ylabel="information (1 / logits²)", ylim=(0, None))
+    axes.set(xlabel=f"ability ({series.ability_unit})", ylabel=f"information (1 / {series.ability_unit}²)", ylim=(0, None))
     below(axes)
     return picture(figure, "Information of each form, beside the best items of the bank",
                    f"The information of the forms by ability: at most {series.information.max():.2f}; at the weighted abilities each has at least "
@@ -307,10 +309,10 @@ def errors(series: Series) -> Picture:
     if series.target:
         wide = np.linspace(series.target.abilities[0], series.target.abilities[-1], 121)
         axes.plot(wide, standard_error(series.target.information(wide)), color=pictures.GREY, lw=2.4, label="target asked, at most")
-    axes.set(xlabel="ability (logits)", ylabel="standard error (logits)", ylim=(0, 3 * least))
+    axes.set(xlabel=f"ability ({series.ability_unit})", ylabel=f"standard error ({series.ability_unit})", ylim=(0, 3 * least))
     below(axes)
     return picture(figure, "Standard error of each form, from its information",
-                   f"The standard error of the forms by ability, in logits: at least {least:.2f}.")
+                   f"The standard error of the forms by ability, in {series.ability_unit}: at least {least:.2f}.")
 
 
 def differences(series: Series, table: np.ndarray, label: str, caption: str) -> Picture:
@@ -321,7 +323,7 @@ def differences(series: Series, table: np.ndarray, label: str, caption: str) -> 
     for g in series.at:
         axes.axvline(series.theta[g], color=pictures.PALE, lw=1.0, zorder=0)
     draw(series, axes, apart)
-    axes.set(xlabel="ability (logits)", ylabel=label)
+    axes.set(xlabel=f"ability ({series.ability_unit})", ylabel=label)
     below(axes)
     return picture(figure, caption, f"{caption}: between {apart.min():.2f} and {apart.max():.2f}. Lines mark the weighted abilities.")
 

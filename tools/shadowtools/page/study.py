@@ -6,6 +6,7 @@ from typing import List, Optional, Sequence, Tuple
 import numpy as np
 import pandas as pd
 
+from shadowtools.agency.expected import unit_of
 from shadowtools.agency.irt import FIELD
 from shadowtools.agency.retakers import Retakes
 from shadowtools.agency.scoring import SHORT_NAMES, Scorer
@@ -16,7 +17,7 @@ from shadowtools.formats.exposure import Exposure
 from shadowtools.formats.tables import number, read_table
 from shadowtools.page.measures import levels, local_weights, marginal_reliability, mean_overlap, standard_error
 
-BAND_EDGES = (-2.0, -1.0, 0.0, 1.0, 2.0)
+BAND_EDGES = (-2, -1, 0, 1, 2)    # standard deviations of the prior
 MOST_POINTS = 20
 
 
@@ -69,12 +70,12 @@ def target_of(words: Optional[Sequence[str]]) -> Optional[Target]:
 
 @dataclass(frozen=True)
 class Questions:
-    """What the page is asked: the target, the edges of the ability bands (logits, ascending) and whether they are bands of the
-    estimate, and the two abilities between which the page states the standard error."""
+    """What the page is asked: the target, the edges of the ability bands (ascending) and whether they are bands of the estimate, and
+    the two abilities between which the page states the standard error: where none are named, those of the plan's prior."""
     target: Optional[Target] = None
     edges: Optional[Sequence[float]] = None
     by_estimate: bool = False
-    between: Sequence[float] = (-1.0, 1.0)
+    between: Optional[Sequence[float]] = None
 
 
 @dataclass
@@ -133,7 +134,7 @@ class Study:
                  retakes: Optional[Retakes] = None) -> None:
         self.examination, self.run, self.rules, self.questions, self.counts = examination, run, rules, questions, counts
         self.scorer, self.short_name = scorer, SHORT_NAMES[scorer.asked.estimate]
-        self.cuts = np.array(scorer.cuts)
+        self.cuts, self.unit = np.array(scorer.cuts), unit_of(examination.map["theta"])
         self.sessions = sample + tails
         self.items, self.length = examination.items, examination.plan.length
         self.names = np.array([item.name for item in examination.items])
@@ -179,7 +180,7 @@ class Study:
         if edges is None and len(np.unique(inside)) <= MOST_POINTS:
             found = point_bands(inside, self.sample, False)
         else:
-            found = interval_bands(inside, self.sample, edges or BAND_EDGES)
+            found = interval_bands(inside, self.sample, edges or list(map(self.examination.expected.at, BAND_EDGES)))
         return found + point_bands(self.people.true.to_numpy()[self.tails], self.tails, True)
 
     def mean_information(self, at: np.ndarray) -> np.ndarray:
@@ -206,17 +207,17 @@ class Study:
         return np.sort(bank, 0)[::-1][:self.length].sum(0)
 
 
-def is_in_logits(study: Study) -> bool:
-    """Whether scores are reported as abilities in logits."""
+def is_of_ability(study: Study) -> bool:
+    """Whether scores are reported as abilities."""
     return list(study.scorer.asked.scale) == [0.0, 1.0]
 
 
 def names_of_cuts(study: Study) -> List[str]:
-    """The cut scores, each on another scale than logits with its ability."""
+    """The cut scores, each on another scale than that of ability with its ability."""
     scale = study.scorer.scale
-    if is_in_logits(study):
+    if is_of_ability(study):
         return [plain(cut) for cut in scale.cuts]
-    return [f"{plain(cut)} ({plain(round(ability, 3))} logits)" for cut, ability in zip(scale.cuts, study.cuts)]
+    return [f"{plain(cut)} ({plain(round(ability, 3))} {study.unit})" for cut, ability in zip(scale.cuts, study.cuts)]
 
 
 def reliability_of(study: Study) -> Tuple[float, int]:

@@ -6,7 +6,7 @@ import numpy as np
 from shadowtools.agency.scoring import words_of
 from shadowtools.page.measures import accuracy, consistency, level_chances, levels, standard_error
 from shadowtools.page.parts import Verdict
-from shadowtools.page.study import Study, fixed, is_in_logits, names_of_cuts, plain, reliability_of, table_by_band
+from shadowtools.page.study import Study, fixed, is_of_ability, names_of_cuts, plain, reliability_of, table_by_band
 
 MET, NOT_MET, MEASURED = "met", "not met", "measured"
 
@@ -30,14 +30,14 @@ def rules(study: Study) -> Verdict:
 
 
 def precision(study: Study) -> Verdict:
-    low, high = study.questions.between
+    low, high = study.questions.between or map(study.examination.expected.at, (-1, 1))
     people = study.people.iloc[study.sample]
     inside = people[(people.true >= low) & (people.true <= high)]
     place = f"between {plain(low)} and {plain(high)}"
     if not len(inside):
         return Verdict(MEASURED, f"No examinee has a true ability {place}, so nothing is known of the standard error there.")
     mean = standard_error(inside.information.mean())
-    return Verdict(MEASURED, f"The standard error is at most {inside.standard_error.max():.2f} logits in the tests of the {len(inside):,} "
+    return Verdict(MEASURED, f"The standard error is at most {inside.standard_error.max():.2f} {study.unit} in the tests of the {len(inside):,} "
                           f"examinees with a true ability {place}, and {mean:.2f} from their mean information.")
 
 
@@ -143,7 +143,7 @@ def classification(study: Study) -> Iterator[Verdict]:
     agreement, kappa = consistency(chances)
     names = " and ".join(names_of_cuts(study))
     cut = "cut score" if len(cuts) == 1 else "cut scores"
-    scale = "" if is_in_logits(study) else f" of the scale {words_of(study.scorer.asked.scale)}"
+    scale = "" if is_of_ability(study) else f" of the scale {words_of(study.scorer.asked.scale)}"
     yield Verdict(MEASURED, f"At {cut} {names}{scale}, {(true == found).mean():.1%} of the examinees are in their true level, "
                             f"{(found > true).mean():.1%} above and {(found < true).mean():.1%} below it. By the formulas the "
                             f"accuracy is {accuracy(chances, true):.1%}, and two tests agree in {agreement:.1%} (kappa {fixed(kappa, 2)}).")
@@ -156,7 +156,7 @@ def tails(study: Study) -> Iterator[Verdict]:
         return
     fewest = min(len(band.members) for band in added)
     worst = bands.loc[bands.bias.abs().idxmax()]
-    yield Verdict(MEASURED, f"In the tails, of {fewest} or more examinees at each ability, the bias is at most {abs(worst.bias):.2f} logits "
+    yield Verdict(MEASURED, f"In the tails, of {fewest} or more examinees at each ability, the bias is at most {abs(worst.bias):.2f} {study.unit} "
                          f"({'up' if worst.bias > 0 else 'down'}, {worst.band}), and the standard error at most "
                          f"{bands.standard_error.max():.2f} ({bands.loc[bands.standard_error.idxmax()].band}).")
 
