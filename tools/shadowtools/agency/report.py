@@ -3,6 +3,8 @@ and no script.
 
 usage: report.py PREFIX --run OUT --to REPORT.html [options]
        report.py PREFIX --series LINES --to REPORT.html [--target ..] [--template FILE]
+       report.py PREFIX --journal JOURNAL --record RECORD --to REPORT.html [..]      a window of real examinees;
+                                                                     report.py --journal --help has its options
 
   --target FILE                  what a test is to measure: a CSV table with the columns ability and information, or ability and
                                  se (standard error, in logits); or --target LOW HIGH INFORMATION
@@ -45,25 +47,26 @@ import jinja2  # noqa: E402
 import numpy as np  # noqa: E402
 import pandas as pd  # noqa: E402
 
+from shadowtools.agency import window_report  # noqa: E402
 from shadowtools.agency.custody import sha256_of  # noqa: E402
 from shadowtools.agency.expected import unit_of  # noqa: E402
 from shadowtools.agency.retakers import Retakes, retakes_of  # noqa: E402
 from shadowtools.agency.scoring import (OPTIONS, SHORT_NAMES, Scorer, add_reporting, reporting_of,  # noqa: E402
                                         reporting_of_record)
 from shadowtools.agency.series_weights import read_weights  # noqa: E402
-from shadowtools.agency.simulate import revision  # noqa: E402
 from shadowtools.agency.simulation import Examination, load, parted, read_run, rules_of  # noqa: E402
 from shadowtools.command import Refused, as_command  # noqa: E402
 from shadowtools.formats.examination import Session, read_journal, require_points  # noqa: E402
 from shadowtools.formats.exposure import Exposure, exposure_of  # noqa: E402
 from shadowtools.formats.tables import text_of  # noqa: E402
 from shadowtools.options import Options, finite, require_folder, whole  # noqa: E402
-from shadowtools.page import series as series_page  # noqa: E402
+from shadowtools.page import series as series_page, window as window_page  # noqa: E402
 from shadowtools.page.parts import UNBOUND, Section, Verdict  # noqa: E402
 from shadowtools.page.pictures import at_a_glance  # noqa: E402
 from shadowtools.page.sections import chosen, sections  # noqa: E402
 from shadowtools.page.study import Questions, Study, answers, table_by_item, target_of  # noqa: E402
 from shadowtools.page.verdicts import verdicts  # noqa: E402
+from shadowtools.places import revision  # noqa: E402
 
 TEMPLATE = os.path.join(os.path.dirname(os.path.dirname(os.path.abspath(__file__))), "page", "report.html")
 # The options that are about a simulation alone, with what they are where they are not given.
@@ -216,7 +219,21 @@ def page_of_series(given: argparse.Namespace) -> int:
     return 1 if bad else 0
 
 
+def page_of_window(words: Sequence[str]) -> int:
+    """Writes the page of a window of real examinees and its tables. The exit status."""
+    given = window_report.options(words, TEMPLATE)
+    found = window_report.findings(given, window_report.tell)
+    window = found.window
+    lead = f"{window_page.count(len(window.complete), 'complete test')} of {window_page.count(len(window.sessions), 'session')}, each of {window.length} " \
+           f"items. {now()}."
+    text = page(given.template, f"Technical report of a window: {os.path.basename(given.prefix)}", lead, window_page.verdicts(found),
+                window_page.sections(found))
+    return window_report.write_report(given, found, text)
+
+
 def main(words: Sequence[str]) -> int:
+    if any(word.partition("=")[0] == "--journal" for word in words):
+        return page_of_window(words)
     given = options(words)
     return page_of_series(given) if given.series else report_of_run(given)
 

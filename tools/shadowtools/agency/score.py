@@ -152,6 +152,14 @@ def row_of(scorer: Scorer, number: int, session: Session, state: str, least: int
     return cells + [f"{scorer.theta[mode(sums)]:.4f}", f"{mean:.4f}", f"{deviation:.4f}"] + scorer.scale.cells(scorer.score(session))
 
 
+def rows_of(scorer: Scorer, documents: Documents, sessions: Sequence[Session], least: int, is_audited: bool, has_journal: bool) -> List[List[str]]:
+    """The row of each session. A journal names neither bank nor plan, so its column is `unbound`."""
+    of_all = ["audited" if is_audited else "unaudited", documents.sha256["bank"], documents.sha256["plan"],
+              "bound" if documents.is_bound else "unbound", "unbound" if has_journal else ""]
+    return [row_of(scorer, number, session, state_of(session, documents.plan.length), least) + of_all
+            for number, session in enumerate(sessions)]
+
+
 def state_of(session: Session, length: int) -> str:
     return "closed" if session.closed else "complete" if len(session.responses) == length else "open"
 
@@ -228,10 +236,7 @@ def main(words: Sequence[str]) -> int:
         raise Refused(f"{given.journal}: the journal has no session; there is nothing to score")
     require_own(sessions, documents, given)
     scorer = Scorer(documents.bank, documents.plan.prior, documents.map, given.reporting)
-    of_all = ["audited" if audit else "unaudited", documents.sha256["bank"], documents.sha256["plan"],
-              "bound" if documents.is_bound else "unbound", "unbound" if given.journal else ""]
-    rows = [row_of(scorer, number, session, state_of(session, documents.plan.length), given.least) + of_all
-            for number, session in enumerate(sessions)]
+    rows = rows_of(scorer, documents, sessions, given.least, bool(audit), bool(given.journal))
     result = table_text([COLUMNS, *rows])
     if given.answers:
         write(given.answers, answers_text(sessions, documents))

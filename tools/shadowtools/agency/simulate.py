@@ -40,7 +40,6 @@ import json
 import os
 import re
 import shutil
-import subprocess
 import sys
 import tempfile
 import time
@@ -66,7 +65,7 @@ from shadowtools.formats.examination import Session, read_journal, require_point
 from shadowtools.formats.exposure import Exposure, differs, exposure_of  # noqa: E402
 from shadowtools.formats.tables import runs  # noqa: E402
 from shadowtools.options import Options, between, require_folder, whole  # noqa: E402
-from shadowtools.places import BUILT, TOP  # noqa: E402
+from shadowtools.places import BUILT, revision  # noqa: E402
 
 MOST_SESSIONS, MOST_BYTES = 65_536, 536_870_912
 MEMORY = "/dev/shm"
@@ -265,16 +264,6 @@ def verdict(examination: Examination, rules, stage: Stage) -> Optional[str]:
 
 
 # ---------------------------------------------------------------- what is written
-
-def revision() -> str:
-    """The commit of the repository that these tools are in, as far as git knows one."""
-    try:
-        done = subprocess.run(["git", "-C", TOP, "describe", "--always", "--dirty", "--abbrev=12"], stdin=subprocess.DEVNULL,
-                              capture_output=True, text=True)
-    except OSError:
-        return "not known"
-    return done.stdout.strip() if done.returncode == 0 else "not known"
-
 
 def write_run(given: argparse.Namespace, examination: Examination, theta: np.ndarray, retakers: Sequence[int], line: str,
               stages: Sequence[Stage], wall: float) -> dict:

@@ -56,6 +56,13 @@ class Text:
 
 
 @dataclass
+class Signatures:
+    """A line to sign for each of these offices, on paper."""
+    offices: Sequence[str]
+    kind: str = "signatures"
+
+
+@dataclass
 class Section:
     """A section with its heading; `name` is its anchor."""
     name: str
