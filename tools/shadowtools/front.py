@@ -7,6 +7,7 @@ usage: shadow COMMAND [words]          shadow COMMAND --help has the words of a 
   report        a simulation or a series of forms as a page to sign
   score         a score for each examinee of a journal
   explain       why a plan has no form, or how far a form can be from the best
+  rate          the exposure rate by which no item is shown in too many tests
   custody       makes a folder with all files of a window, and checks one
   audit         audits a journal, apart from the program; seals a journal
   tree          checks one proof tree
@@ -26,7 +27,8 @@ from shadowtools.command import as_command
 # The module of each command, and the name of its script in tools/.
 COMMANDS = {
     "bank": "agency.irt_bank", "simulate": "agency.simulate", "report": "agency.report", "score": "agency.score",
-    "explain": "agency.explain", "custody": "agency.custody_folder", "audit": "checkers.audit", "tree": "checkers.check_tree",
+    "explain": "agency.explain", "custody": "agency.custody_folder", "rate": "agency.rate",
+    "audit": "checkers.audit", "tree": "checkers.check_tree",
     "series-check": "checkers.check_series"}
 SCRIPTS = {module.rpartition(".")[2]: name for name, module in COMMANDS.items()}
 

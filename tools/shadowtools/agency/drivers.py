@@ -272,3 +272,27 @@ def by_http(server, sittings, clients, progress):
             client.connection.close()
     seconds = [(1, one) for client in made for one in client.seconds]
     return seconds, (counts["finished"], [tuple(row) for row in counts["rows"]])
+
+
+def by_turns(server: Server, bookings: Sequence[int], responses: Mapping[int, Sequence[int]], group: int, progress: Progress) -> None:
+    """Takes bookings through over one connection, `group` at a time, each request in the order of `by_replay`: the draws see what they
+    would see there, and the same bookings give the same journal."""
+    client = Client(server.connection())
+    try:
+        for first in range(0, len(bookings), group):
+            asked = [(k, client.asked("POST", "/sessions", {"booking": k})) for k in bookings[first:first + group]]
+            while asked:
+                waiting = [(k, place) for k, place in asked if place["state"] == "waiting"]
+                asked = [(k, answered_place(client, responses[k], place)) for k, place in waiting]
+                client.answers += len(asked)
+                progress.note(client.answers)
+    except Lost as lost:
+        raise server.stopped(lost)
+    finally:
+        client.connection.close()
+
+
+def answered_place(client: Client, responses: Sequence[int], place: Any) -> Any:
+    """The place of a session after the answer to the item that it waits for."""
+    answer = {"step": place["step"], "response": int(responses[place["item"]])}
+    return client.asked("POST", f"/sessions/{place['session']}/answers", answer)
