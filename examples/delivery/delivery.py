@@ -18,7 +18,7 @@ import web
 from booking_desk import Desk
 from exam_server import Away, ExamServer, Refused
 from item_texts import read_texts
-from readers import moments, posterior_sums, read_documents
+from readers import mode, moments, posterior_sums, read_documents
 
 WRONG_CODES, IN_SECONDS = 20, 60  # of one address
 COOKIE_SECONDS = 12 * 3600
@@ -134,13 +134,14 @@ class Delivery:
         return place
 
     def score(self, answers):
-        """The score and its standard error, if the agency shows them: the mean of the posterior on the reported scale."""
+        """The score and its standard error on the reported scale, if the agency shows them."""
         if not self.settings.show_score or [given.step for given in answers] != list(range(self.length)):
             return None
         bank, plan, found = self.documents.bank, self.documents.plan, self.documents.map
         sums = posterior_sums(bank, plan.prior, [given.item for given in answers], [given.response for given in answers])
         mean, deviation = moments(sums, found["theta"], found["log_unit"])
-        return self.settings.scale[0] + self.settings.scale[1] * mean, self.settings.scale[1] * deviation
+        theta = mean if self.settings.estimate == "eap" else found["theta"][mode(sums)]
+        return self.settings.scale[0] + self.settings.scale[1] * theta, self.settings.scale[1] * deviation
 
     @staticmethod
     def log(booking, fault):

@@ -44,7 +44,10 @@ def paragraphs(name, table):
 
 def read_passage(folder, name):
     table = load(os.path.join(folder, "passages"), name)
-    return Passage(str(table.get("title", name)), paragraphs(name, table))
+    title = table.get("title")
+    if not isinstance(title, str) or not title.strip():
+        raise BadInput(f"passages/{name}: no title")
+    return Passage(title, paragraphs(name, table))
 
 
 def read_item(folder, name, categories, passage):

@@ -38,19 +38,19 @@ def item_text(text, options, responses):
 
 def arithmetic(item, draw):
     """A multiplication, or for easy items a sum, with the result at the key and three results that are near."""
-    name, attributes, hard = item["id"], item["attributes"], item["parameters"][1] > 0
+    attributes, hard = item["attributes"], item["parameters"][1] > 0
     left, right = draw.randint(12, 29) if hard else draw.randint(11, 69), draw.randint(3, 9) if hard else draw.randint(11, 29)
     result = left * right if hard else left + right
     wrong = [result + by for by in draw.sample([-20, -10, -2, -1, 1, 2, 10, 20], 3)]
     key = "ABCD".index(attributes["KEY"])
     options = [str(value) for value in wrong[:key] + [result] + wrong[key:]]
-    text = f"Made-up item for {name} ({attributes['DOMAIN']}).\n\nHow much is {left} {'times' if hard else 'plus'} {right}?"
+    text = f"Made-up item ({attributes['DOMAIN']}).\n\nHow much is {left} {'times' if hard else 'plus'} {right}?"
     return item_text(text, options, [int(place == key) for place in range(4)])
 
 
 def attitude(item):
     attributes = item["attributes"]
-    text = (f"Made-up item for {item['id']}.\n\n"
+    text = ("Made-up item.\n\n"
             f"In this situation, {MODES[attributes['MODE']]} {TYPES[attributes['TYPE']]}?")
     return item_text(text, ["No", "Perhaps", "Yes"], [0, 1, 2])
 

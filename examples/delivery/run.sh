@@ -3,25 +3,44 @@
 #
 #     examples/delivery/run.sh [knowledge|aggression]          Ctrl-C ends all three
 #
+# What ends of the three is started again after five seconds, with a line on standard error.
+#
 # FOLDER   where journal, codes and secrets are; a second run in it goes on. Default: a new folder of temporary files
 # SHADOWD  the program; default crates/shadowd/out/shadowd
 # PYTHON   an interpreter with Flask, Flask-WTF and Waitress; default /usr/bin/python3
-# PORT     the application's port on the loopback address; the control room has the next one, shadowd the one after. Default 8080
+# PORT     the application's port on the loopback address; the control room has the next one, shadowd the one after. Default 8080.
+#          A second run in a folder has the ports of its settings
 set -e
 here=$(cd "$(dirname "$0")" && pwd)
-example=${1:-knowledge}
-program=$(readlink -f "${SHADOWD:-$here/../../crates/shadowd/out/shadowd}")
 python=${PYTHON:-/usr/bin/python3}
-port=${PORT:-8080}
-[ -d "$here/texts/$example" ] || { echo "usage: run.sh [knowledge|aggression]" >&2; exit 2; }
-[ -x "$program" ] || { echo "$program is not built: see the README of the repository" >&2; exit 1; }
-"$python" -c 'import flask, flask_wtf, waitress' ||
-    { echo "needs: apt-get install python3-flask python3-flaskext.wtf python3-waitress" >&2; exit 1; }
+refuse() { echo "$1" >&2; exit "$2"; }
 
 umask 077
 folder=${FOLDER:-$(mktemp -d)}
 mkdir -p "$folder"
 folder=$(cd "$folder" && pwd)
+setting() { sed -n "s|^$1 = \"\(.*\)\".*|\1|p" "$folder/settings.toml"; }
+example=${1:-knowledge} port=${PORT:-8080}
+if [ -f "$folder/settings.toml" ]; then
+    texts=$(setting texts) listen=$(setting listen)
+    example=${texts##*/} port=${listen##*:}
+fi
+program=$(readlink -f "${SHADOWD:-$here/../../crates/shadowd/out/shadowd}")
+[ -d "$here/texts/$example" ] || refuse "usage: run.sh [knowledge|aggression]" 2
+[ -x "$program" ] || refuse "$program is not built: see the README of the repository" 1
+[[ $port =~ ^[1-9][0-9]{0,4}$ ]] && [ "$port" -le 65533 ] || refuse "PORT is a number from 1 to 65533" 2
+"$python" -c 'import flask, flask_wtf, waitress' ||
+    refuse "needs: apt-get install python3-flask python3-flaskext.wtf python3-waitress" 1
+"$python" - "$port" <<'PORTS' || exit 1
+import socket, sys
+for port in range(int(sys.argv[1]), int(sys.argv[1]) + 3):
+    try:
+        socket.create_server(("127.0.0.1", port)).close()
+    except OSError as error:
+        sys.exit(f"port {port} of the three from {sys.argv[1]} on can't be had: {error.strerror}. Nothing was started. "
+                 "Give another port by PORT=N, or end what listens there")
+PORTS
+
 random() { "$python" -c 'import secrets; print(secrets.token_hex(32))'; }
 if [ ! -f "$folder/settings.toml" ]; then
     random > "$folder/secret"
@@ -54,33 +73,44 @@ show_score = false
 SETTINGS
 fi
 
-# Keeps shadowd up: after its end it starts again in five seconds, unless a new start meets the same fault.
-serve() {
-    export SHADOWD_JOURNAL=$folder/journal SHADOWD_LISTEN=127.0.0.1:$((port + 2)) SHADOWD_WORKERS=16
-    if [ -f "$folder/token" ]; then SHADOWD_TOKEN=$(cat "$folder/token") && export SHADOWD_TOKEN; fi
+# Keeps a program up: after its end it starts again in five seconds, unless a new start would meet the same fault.
+keep() {
+    local name=$1 for_good=$2 status
+    shift 2
     trap 'kill $child 2>/dev/null; exit 0' TERM
     while true; do
-        "$program" serve "$here/../$example/$example.bank.csv" "$folder/plan.txt" &
+        "$@" &
         child=$!
-        echo $child > "$folder/shadowd.pid"
+        echo $child > "$folder/$name.pid"
         status=0
         wait $child || status=$?
-        case $status in 2 | 3 | 4 | 6 | 11 | 12) exit $status ;; esac
-        sleep 5
+        case $for_good in *" $status "*)
+            echo "run.sh: $name ended with status $status. A new start would meet the same fault, so there is none." >&2
+            exit "$status" ;;
+        esac
+        echo "run.sh: $name ended with status $status. It starts again in five seconds." >&2
+        sleep 5 &
+        child=$!
+        wait $child
     done
 }
-serve &
+
+export SHADOWD_JOURNAL=$folder/journal SHADOWD_LISTEN=127.0.0.1:$((port + 2)) SHADOWD_WORKERS=16
+if [ -f "$folder/token" ]; then SHADOWD_TOKEN=$(cat "$folder/token") && export SHADOWD_TOKEN; fi
+keep shadowd " 2 3 4 6 11 12 " "$program" serve "$here/../$example/$example.bank.csv" "$folder/plan.txt" &
 children=$!
 trap 'kill $children 2>/dev/null; wait' EXIT
 trap 'exit 0' INT TERM
-"$python" "$here/delivery.py" "$folder/settings.toml" &
+keep delivery " 1 2 " "$python" "$here/delivery.py" "$folder/settings.toml" &
 children="$children $!"
-"$python" "$here/control_room.py" "$folder/settings.toml" &
+keep control_room " 1 2 " "$python" "$here/control_room.py" "$folder/settings.toml" &
 children="$children $!"
+alive() { for child in $children; do kill -0 "$child" 2>/dev/null || exit 1; done; }
 until (exec 3<>"/dev/tcp/127.0.0.1/$port" 4<>"/dev/tcp/127.0.0.1/$((port + 1))" 5<>"/dev/tcp/127.0.0.1/$((port + 2))") 2>/dev/null; do
-    for child in $children; do kill -0 "$child" 2>/dev/null || exit 1; done
+    alive
     sleep 0.2
 done
+alive
 
 echo
 echo "The test:          http://127.0.0.1:$port/"

@@ -1,5 +1,11 @@
-"""The settings of one examination, from a file of TOML. Paths are relative to the folder of that file."""
+"""The settings of one examination, from a file of TOML. Paths are relative to the folder of that file.
+
+Each setting has a kind, which refuses every other value with the line of the file. All of it is read before a port is opened.
+"""
+import dataclasses
+import math
 import os
+import re
 import tomllib
 from dataclasses import dataclass
 
@@ -8,28 +14,94 @@ class BadInput(Exception):
     """A file cannot be taken; the text names it and what is wrong in it."""
 
 
-@dataclass(frozen=True)
+class WrongValue(Exception):
+    """A value is not of the kind of its setting; the text has what it has to be."""
+
+
+def is_number(value):
+    return type(value) in (int, float) and math.isfinite(value)
+
+
+def text(value):
+    if not isinstance(value, str) or not value.strip():
+        raise WrongValue("a text in quotes that is not empty")
+    return value
+
+
+def address(value):
+    host, _, port = value.rpartition(":") if isinstance(value, str) else ("", "", "")
+    if not host or not re.fullmatch(r"[1-9][0-9]{0,4}", port) or int(port) > 65535:
+        raise WrongValue('an address and a port in quotes, as "127.0.0.1:8080"')
+    return value
+
+
+def truth(value):
+    if not isinstance(value, bool):
+        raise WrongValue("true or false, without quotes")
+    return value
+
+
+def scale(value):
+    if not isinstance(value, list) or len(value) != 2 or not all(map(is_number, value)) or value[1] <= 0:
+        raise WrongValue("two numbers, as [500, 100], of which the second is above 0")
+    return tuple(map(float, value))
+
+
+def whole(low, high):
+    def kind(value):
+        if type(value) is not int or not low <= value <= high:
+            raise WrongValue(f"a whole number from {low} to {high}")
+        return value
+    return kind
+
+
+def number(low, high):
+    def kind(value):
+        if not is_number(value) or not low <= value <= high:
+            raise WrongValue(f"a number from {low:g} to {high:g}")
+        return float(value)
+    return kind
+
+
+def one_of(*words):
+    def kind(value):
+        if value not in words or not isinstance(value, str):
+            raise WrongValue("one of " + ", ".join(f'"{word}"' for word in words))
+        return value
+    return kind
+
+
+def path(value):
+    return text(value)
+
+
+def setting(kind, default=dataclasses.MISSING):
+    return dataclasses.field(default=default, metadata={"kind": kind})
+
+
+@dataclass(frozen=True, kw_only=True)
 class Settings:
-    title: str
-    listen: str  # address and port of the application
-    control_listen: str  # address and port of the control room
-    server: str  # address and port of shadowd
-    program: str  # shadowd itself, for the audit of a copy of the journal
-    bank: str
-    plan: str
-    map: str
-    texts: str  # folder with one file an item
-    journal: str
-    store: str  # the application's own file: codes, seats, answers on their way
-    secret: str  # file with the key of cookies and codes
-    staff_password: str  # file with the password of the control room
-    token: str = ""  # file with the token of shadowd; else SHADOWD_TOKEN of the environment, if it is set
-    connections: int = 12  # requests to shadowd at a time; with the control room's 2 fewer than its workers
-    patience: float = 5.0  # seconds for a reply of shadowd, three times
-    show_score: bool = False
-    scale: tuple = (0.0, 1.0)  # the reported score is A + B * ability
-    secure_cookies: bool = True  # False only without TLS, on the loopback address
-    proxy: str = ""  # address of a proxy whose X-Forwarded fields are believed
+    title: str = setting(text)
+    listen: str = setting(address)  # of the application
+    control_listen: str = setting(address)  # of the control room
+    server: str = setting(address)  # of shadowd
+    program: str = setting(path)  # shadowd itself, for the audit of a copy of the journal
+    bank: str = setting(path)
+    plan: str = setting(path)
+    map: str = setting(path)
+    texts: str = setting(path)  # folder with one file an item
+    journal: str = setting(path)
+    store: str = setting(path)  # the application's own file: codes, seats, answers on their way
+    secret: str = setting(path)  # file with the key of cookies and codes
+    staff_password: str = setting(path)  # file with the password of the control room
+    token: str = setting(path, "")  # file with the token of shadowd; else SHADOWD_TOKEN of the environment, if it is set
+    connections: int = setting(whole(1, 250), 12)  # requests to shadowd at a time; with the control room's 2 fewer than its workers
+    patience: float = setting(number(0.1, 600), 5.0)  # seconds for a reply of shadowd, three times
+    show_score: bool = setting(truth, False)
+    estimate: str = setting(one_of("eap", "mode"), "eap")  # of the score that is shown; tools/score.py has two more
+    scale: tuple = setting(scale, (0.0, 1.0))  # the reported score is A + B * ability
+    secure_cookies: bool = setting(truth, True)  # false only without TLS, on the loopback address
+    proxy: str = setting(text, "")  # address of a proxy whose X-Forwarded fields are believed
 
     def secret_of(self, name):
         """The secret that a file has."""
@@ -47,21 +119,52 @@ class Settings:
         return found
 
 
-PATHS = ("program", "bank", "plan", "map", "texts", "journal", "store", "secret", "staff_password", "token")
+def read_text(path_of_file):
+    try:
+        with open(path_of_file, encoding="utf-8") as file:
+            return file.read()
+    except (OSError, ValueError) as error:
+        raise BadInput(f"{path_of_file}: {error}") from error
 
 
-def read_table(path):
+def read_table(path_of_file):
     """The table of a file of TOML."""
     try:
-        with open(path, "rb") as file:
-            return tomllib.load(file)
-    except (OSError, ValueError) as error:
-        raise BadInput(f"{path}: {error}") from error
+        return tomllib.loads(read_text(path_of_file))
+    except tomllib.TOMLDecodeError as error:
+        raise BadInput(f"{path_of_file}: {error}") from error
 
 
-def read_settings(path):
-    folder, found = os.path.dirname(os.path.abspath(path)), read_table(path)
-    try:
-        return Settings(**found | {name: os.path.join(folder, found[name]) for name in PATHS if found.get(name)})
-    except TypeError as error:
-        raise BadInput(f"{path}: {error}") from error
+def line_of(source, name):
+    """Where a text of TOML gives a name its value, as ` line N`; empty if no line begins with it."""
+    begins = re.compile(rf"\s*\[*\s*[\"']?{re.escape(name)}[\"']?\s*[=.\]]")
+    lines = (number for number, line in enumerate(source.split("\n"), 1) if begins.match(line))
+    return next((f" line {number}" for number in lines), "")
+
+
+def read_as(kinds, path_of_file):
+    """The settings of a file as a dataclass whose fields have kinds."""
+    found, source = read_table(path_of_file), read_text(path_of_file)
+    folder = os.path.dirname(os.path.abspath(path_of_file))
+    fields, values = {field.name: field for field in dataclasses.fields(kinds)}, {}
+    for name, value in found.items():
+        where = f"{path_of_file}{line_of(source, name)}: {name}"
+        if name not in fields:
+            raise BadInput(f"{where} is no setting")
+        kind = fields[name].metadata["kind"]
+        if value == fields[name].default == "":  # as if it was left out
+            continue
+        try:
+            values[name] = kind(value)
+        except WrongValue as wrong:
+            raise BadInput(f"{where} has to be {wrong}") from wrong
+        if kind is path:
+            values[name] = os.path.join(folder, value)
+    missing = [name for name, field in fields.items() if field.default is dataclasses.MISSING and name not in values]
+    if missing:
+        raise BadInput(f"{path_of_file}: missing {', '.join(missing)}")
+    return kinds(**values)
+
+
+def read_settings(path_of_file):
+    return read_as(Settings, path_of_file)

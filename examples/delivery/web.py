@@ -1,4 +1,5 @@
 """What both applications share: the headers of each page, the page of a fault, and the server that they run under."""
+import logging
 import sqlite3
 import sys
 
@@ -54,20 +55,35 @@ def secured(app, home):
     return app
 
 
+def server_of(app, settings, address):
+    """The server of an application, whose port is open from now on."""
+    host, _, port = address.rpartition(":")
+    trusted = {"trusted_proxy": settings.proxy, "trusted_proxy_headers": {"x-forwarded-for", "x-forwarded-proto"}}
+    try:
+        return waitress.create_server(
+            app, host=host.strip("[]"), port=int(port), threads=16, ident=None, max_request_body_size=8192,
+            channel_timeout=20, connection_limit=900, asyncore_use_poll=True, clear_untrusted_proxy_headers=True,
+            **(trusted if settings.proxy else {}))
+    except (OSError, ValueError) as error:
+        raise BadInput(f"{address} can't be listened at: {error}") from error
+
+
 def run(make_app, address, words):
-    """Serves the application of the settings that the words name, at the address of that name."""
+    """Serves the application of the settings that the words name, at the address of that name. The status is 1 or 2 where a new
+    start would meet the same fault, and 3 where it need not."""
     if len(words) != 1:
         print("usage: SETTINGS", file=sys.stderr)
         return 2
     try:
         settings = read_settings(words[0])
-        app = make_app(settings)
-    except (BadInput, Refused, OSError) as error:
+        server = server_of(make_app(settings), settings, getattr(settings, address))
+    except (BadInput, Refused, OSError, sqlite3.Error) as error:
         print(error, file=sys.stderr)
         return 1
-    host, _, port = getattr(settings, address).rpartition(":")
-    trusted = {"trusted_proxy": settings.proxy, "trusted_proxy_headers": {"x-forwarded-for", "x-forwarded-proto"}}
-    waitress.serve(app, host=host, port=int(port), threads=16, ident=None, max_request_body_size=8192, channel_timeout=20,
-                   connection_limit=900, asyncore_use_poll=True, clear_untrusted_proxy_headers=True,
-                   **(trusted if settings.proxy else {}))
+    logging.basicConfig()
+    try:
+        server.run()
+    except Exception:  # whoever keeps the application up starts it again
+        logging.exception("the application ends")
+        return 3
     return 0

@@ -70,6 +70,15 @@ return found;
 """
 
 
+# In the colours of a person who needs high contrast: what can be pressed and has no edge that is seen.
+EDGES = r"""
+const shown = [...document.querySelectorAll('button, .button, label.option, input.code')].filter(one => one.getBoundingClientRect().width > 0);
+return shown.filter(one => { const style = getComputedStyle(one);
+    return parseFloat(style.borderTopWidth) < 1 || style.borderTopStyle === 'none' || style.borderTopColor === getComputedStyle(document.body).backgroundColor;
+}).map(one => one.outerHTML.slice(0, 60));
+"""
+
+
 class InBrowser(Examination):
     """A server, the application, and browsers with a window each."""
 
@@ -267,6 +276,10 @@ class Looks(InBrowser):
             driver.execute_cdp_cmd("Emulation.setDeviceMetricsOverride", {"width": width, "height": 800, "deviceScaleFactor": 1, "mobile": width < 600})
             self.assertEqual(driver.execute_script(LOOK), [], f"{name} at {width}")
         driver.execute_cdp_cmd("Emulation.clearDeviceMetricsOverride", {})
+        driver.execute_cdp_cmd("Emulation.setEmulatedMedia", {"features": [{"name": "forced-colors", "value": "active"}]})
+        self.assertTrue(driver.execute_script("return matchMedia('(forced-colors: active)').matches"))
+        self.assertEqual(driver.execute_script(EDGES), [], f"{name} in forced colours")
+        driver.execute_cdp_cmd("Emulation.setEmulatedMedia", {"features": []})
         nodes = driver.execute_cdp_cmd("Accessibility.getFullAXTree", {})["nodes"]
         named = [(node["role"]["value"], node.get("name", {}).get("value", "").strip()) for node in nodes
                  if not node["ignored"] and node["role"]["value"] in ("radio", "button", "textbox", "link", "radiogroup", "group", "img", "image",

@@ -8,6 +8,7 @@ import json
 import os
 import re
 import signal
+import socket
 import subprocess
 import threading
 
@@ -134,15 +135,31 @@ class ControlRoom(Examination):
 @needs_flask
 @needs_program
 class Launcher(Examination):
+    def launch(self, port, errors):
+        environment = os.environ | {"SHADOWD": os.path.abspath(PROGRAM), "FOLDER": self.path("run"), "PORT": str(port)}
+        command = subprocess.Popen(["bash", os.path.join(HERE, "run.sh")], env=environment, stdin=subprocess.DEVNULL,
+                                   stdout=subprocess.PIPE, stderr=errors, text=True)
+        self.addCleanup(command.stdout.close)
+        self.addCleanup(command.kill)
+        return command
+
+    def test_a_port_that_is_busy(self):
+        """One line, a status, and neither a code nor a folder with secrets of an examination that did not start."""
+        for place in range(3):
+            with socket.create_server(("127.0.0.1", 0)) as busy, open(self.path("errors"), "w+", encoding="utf-8") as errors:
+                port = busy.getsockname()[1] - place
+                command = self.launch(port, errors)
+                said = command.communicate(timeout=LIMIT)[0]
+                errors.seek(0)
+                self.assertEqual((command.returncode, said, os.listdir(self.path("run"))), (1, "", []))
+                self.assertRegex(errors.read(), rf"\Aport {port + place} of the three from {port} on can't be had: .*in use.*\n\Z")
+
     def test_all_of_it(self):
         """The command prints two addresses and three codes, starts again what ended, and leaves no process."""
         port = free_port()
-        words = ["bash", os.path.join(HERE, "run.sh")]
-        environment = os.environ | {"SHADOWD": os.path.abspath(PROGRAM), "FOLDER": self.path("run"), "PORT": str(port)}
-        command = subprocess.Popen(words, env=environment, stdin=subprocess.DEVNULL, stdout=subprocess.PIPE, stderr=subprocess.DEVNULL, text=True)
-        self.addCleanup(command.stdout.close)
-        self.addCleanup(command.kill)
-        lines = []
+        errors = open(self.path("errors"), "w+", encoding="utf-8")
+        self.addCleanup(errors.close)
+        command, lines = self.launch(port, errors), []
         while not lines or not lines[-1].startswith("Journal and codes:"):
             line = command.stdout.readline()
             self.assertTrue(line, lines)
@@ -157,9 +174,12 @@ class Launcher(Examination):
         self.assertIn("0 of 3", page)
         for name in ("secret", "staff_password", "plan.txt", "settings.toml", "delivery.sqlite"):
             self.assertEqual(os.stat(os.path.join(self.path("run"), name)).st_mode & 0o077, 0, name)
-        first = self.read("run/shadowd.pid")
-        os.kill(int(first), signal.SIGKILL)
-        wait_until(lambda: self.read("run/shadowd.pid") not in ("", first) and listens(port + 2), "shadowd is started again")
+        before = {name: self.read(f"run/{name}.pid") for name in ("shadowd", "delivery", "control_room")}
+        for name, first in before.items():
+            os.kill(int(first), signal.SIGKILL)
+        for place, name in enumerate(("delivery", "control_room", "shadowd")):
+            wait_until(lambda: self.read(f"run/{name}.pid") not in ("", before[name]) and listens(port + place), f"{name} is started again")
+            self.assertIn(f"run.sh: {name} ended with status 137. It starts again in five seconds.\n", self.read("errors"))
         command.send_signal(signal.SIGTERM)
         command.wait(LIMIT)
         for one in range(3):

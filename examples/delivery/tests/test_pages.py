@@ -4,6 +4,7 @@ import csv
 import dataclasses
 import http.client
 import io
+import json
 import os
 import re
 import shutil
@@ -38,6 +39,13 @@ class WithStandIn(Examination):
         client.begin(self.desk().issue(booking))
         self.assertEqual(client.place(), len(self.recorded(booking)) + 1, client.page)
         return client
+
+    def ids_on(self, page):
+        """The IDs of items and passages that a page shows."""
+        with open(self.settings().map, encoding="utf-8") as file:
+            found = json.load(file)
+        names = [item["id"] for item in found["items"]] + found["passages"]
+        return [name for name in names if re.search(rf"\b{re.escape(name)}\b", page)]
 
     def recorded(self, booking):
         return self.server.recorded.get(self.server.sessions.get(booking), [])
@@ -216,6 +224,12 @@ class Answers(WithStandIn):
             pages.append(re.sub(r'name="csrf_token" value="[^"]*"', "", client.page))
         self.assertEqual(pages[0], pages[1])
         self.assertEqual([value for value, _ in KEY.findall(pages[0])], ["0", "1", "2", "3"])
+
+    def test_pages_have_no_id(self):
+        client = self.begun(70)
+        for step in range(20):
+            self.assertEqual((client.place(), self.ids_on(client.page)), (step + 1, []))
+            client.answer(0)
 
     def test_what_is_no_answer(self):
         client = self.begun(70)
@@ -419,6 +433,50 @@ class Texts(WithStandIn):
 
 
 @needs_flask
+class WrongSettings(WithStandIn):
+    """Each setting has a kind. What is not of it is refused with the line of the file, before a port is opened."""
+
+    def refusal(self, **changed):
+        from settings import BadInput
+        self.change_settings(**changed)
+        with self.assertRaises(BadInput) as caught:
+            self.settings()
+        self.change_settings(**dict.fromkeys(changed, ""))
+        return str(caught.exception)
+
+    def test_values_of_another_kind(self):
+        """The settings of the test have 15 lines that stay; the one that is tried is the 16th."""
+        lines = len(self.read("settings.toml").splitlines())
+        for name, values in {
+                "show_score": ('"no"', '"false"', "0", "1"), "secure_cookies": ('"false"', "[]"), "connections": ("true", "0", "1.0", '"12"', "251"),
+                "patience": ("true", '"5"', "0", "nan", "inf", "601"), "scale": ('["500", "100"]', "[500]", "[500, 0]", "[true, 1]", "500", "[0, inf]"),
+                "title": ("7", '" "', '""'), "listen": ("8080", '"8080"', '":8080"', '"127.0.0.1:0"', '"127.0.0.1:65536"', '"127.0.0.1:x"', '"127.0.0.1:08"'),
+                "bank": ("7", "[]"), "estimate": ('"wle"', "7", "[]"), "proxy": ("true",)}.items():
+            kept = [line for line in self.read("settings.toml").splitlines(True) if line.partition(" = ")[0] == name]
+            for value in values:
+                with self.subTest(name=name, value=value):
+                    said = self.refusal(**{name: value})
+                    self.assertIn(f"settings.toml line {lines - len(kept) + 1}: {name} has to be ", said)
+                    self.write("settings.toml", self.read("settings.toml") + "".join(kept))
+
+    def test_names_that_are_none(self):
+        self.assertIn("show_scores is no setting", self.refusal(show_scores="true"))
+        self.assertIn("settings.toml: missing texts", self.refusal(texts=""))
+
+    def test_kinds_that_are_taken(self):
+        self.change_settings(scale="[500, 100]", patience="7", proxy='""', show_score="true", estimate='"mode"')
+        found = self.settings()
+        self.assertEqual((found.scale, found.patience, found.proxy, found.show_score, found.estimate), ((500.0, 100.0), 7.0, "", True, "mode"))
+
+    def test_a_port_that_is_busy(self):
+        import delivery
+        import web
+        with socket.create_server(("127.0.0.1", self.ports["listen"])), contextlib.redirect_stderr(io.StringIO()) as said:
+            self.assertEqual(web.run(delivery.make_app, "listen", [self.settings_path]), 1)
+        self.assertRegex(said.getvalue(), rf"\A127\.0\.0\.1:{self.ports['listen']} can't be listened at: .*in use\n\Z")
+
+
+@needs_flask
 class Passages(WithStandIn):
     example = "aggression"
 
@@ -427,6 +485,7 @@ class Passages(WithStandIn):
         for _ in range(6):
             self.assertIn('<h2 id="passage">The lift</h2>', client.page)
             self.assertIn("You stand in a lift", client.page)
+            self.assertEqual(self.ids_on(client.page), [])
             client.answer(1)
         self.assertIn('<h2 id="passage">The library</h2>', client.page)
         self.assertNotIn("The lift", client.page)
