@@ -1,5 +1,5 @@
 #!/usr/bin/env python3
-"""The application's own file: one-time codes, who has the seat of a booking, and what was shown and answered when.
+"""The application's own file: one-time codes, who has the seat of a booking, what was shown and answered when, and the time that is left.
 
 usage: booking_desk.py SETTINGS BOOKING .. [without BOOKING ..]      prints a new code for each booking
 
@@ -15,6 +15,7 @@ import secrets
 import sqlite3
 import sys
 import threading
+import time
 from typing import NamedTuple
 
 from settings import BadInput, read_settings
@@ -28,6 +29,8 @@ CREATE TABLE IF NOT EXISTS seats (booking INTEGER PRIMARY KEY, seat TEXT NOT NUL
 CREATE TABLE IF NOT EXISTS answers (booking INTEGER, step INTEGER, item INTEGER NOT NULL, shown_at TEXT NOT NULL,
     option INTEGER, response INTEGER, given_at TEXT, kept_at TEXT, PRIMARY KEY (booking, step));
 CREATE TABLE IF NOT EXISTS lists (booking INTEGER, item INTEGER, PRIMARY KEY (booking, item));
+CREATE TABLE IF NOT EXISTS clocks (booking INTEGER PRIMARY KEY, extra REAL NOT NULL DEFAULT 0, ends_at REAL, paused_at REAL);
+CREATE TABLE IF NOT EXISTS endings (booking INTEGER PRIMARY KEY, why TEXT NOT NULL, state TEXT, at TEXT NOT NULL);
 """
 NOW = "strftime('%Y-%m-%dT%H:%M:%fZ')"
 
@@ -39,9 +42,31 @@ class Given(NamedTuple):
     response: int
 
 
+class Clock(NamedTuple):
+    """The time of a booking, in seconds since 1970. `ends_at` is none without a limit or before the begin, `paused_at` while it runs."""
+    extra: float = 0
+    ends_at: float | None = None
+    paused_at: float | None = None
+
+    def left(self, now):
+        """The seconds that are left, None without a limit."""
+        return None if self.ends_at is None else max(0.0, self.ends_at - (self.paused_at or now))
+
+    def is_over(self, now):
+        return self.ends_at is not None and self.paused_at is None and self.ends_at <= now
+
+
+class Ending(NamedTuple):
+    """Why a test ended: `answered`, `time` or `staff`; and how it is by shadowd, `complete` or `closed`, None until that is known."""
+    why: str
+    state: str | None
+
+
 class Desk:
-    def __init__(self, path, secret):
-        self.path, self.key, self.own = path, secret.encode(), threading.local()
+    """`now` is the clock of the machine, in seconds since 1970."""
+
+    def __init__(self, path, secret, now=time.time):
+        self.path, self.key, self.own, self.now = path, secret.encode(), threading.local(), now
         os.close(os.open(path, os.O_CREAT | os.O_RDWR, 0o600))
         with self.opened() as file:
             file.executescript(TABLES)
@@ -89,17 +114,76 @@ class Desk:
             found = file.execute("SELECT seat, begun_at FROM seats WHERE booking = ?", (booking,)).fetchone()
         return (found[0], found[1] is not None) if found else (None, False)
 
-    def begin(self, booking):
+    def begin(self, booking, limit=0):
+        """Begins the test of a booking, with a limit in seconds and the extra time that it has; 0 is no limit."""
         with self.opened() as file:
-            file.execute(f"UPDATE seats SET begun_at = {NOW} WHERE booking = ? AND begun_at IS NULL", (booking,))
+            begun = file.execute(f"UPDATE seats SET begun_at = {NOW} WHERE booking = ? AND begun_at IS NULL", (booking,)).rowcount
+            if begun and limit:
+                file.execute("INSERT INTO clocks (booking, ends_at) VALUES (?, ?) "
+                             "ON CONFLICT (booking) DO UPDATE SET ends_at = excluded.ends_at + extra", (booking, self.now() + limit))
 
-    def show(self, booking, step, item):
-        """Notes that shadowd waits for an answer to this item. An answer that is on its way stays."""
+    def clock(self, booking):
         with self.opened() as file:
+            found = file.execute("SELECT extra, ends_at, paused_at FROM clocks WHERE booking = ?", (booking,)).fetchone()
+        return Clock(*found) if found else Clock()
+
+    def extend(self, booking, seconds):
+        """Gives a booking extra time, before its test begins or during it; a number below 0 takes it back."""
+        with self.opened() as file:
+            file.execute("INSERT INTO clocks (booking, extra) VALUES (?, ?) ON CONFLICT (booking) DO UPDATE SET "
+                         "extra = extra + excluded.extra, ends_at = ends_at + excluded.extra", (booking, seconds))
+
+    def pause(self, booking):
+        """Stops the clock of a booking: what is left stays."""
+        with self.opened() as file:
+            file.execute("INSERT INTO clocks (booking, paused_at) VALUES (?, ?) ON CONFLICT (booking) DO UPDATE SET "
+                         "paused_at = ifnull(paused_at, excluded.paused_at)", (booking, self.now()))
+
+    def resume(self, booking):
+        """Lets the clock of a booking run again, with what was left at the pause."""
+        with self.opened() as file:
+            file.execute("UPDATE clocks SET ends_at = ends_at + ? - paused_at, paused_at = NULL "
+                         "WHERE booking = ? AND paused_at IS NOT NULL", (self.now(), booking))
+
+    def ask_to_end(self, booking, why):
+        """Notes why a test is to end, before shadowd is asked. What was noted first stays."""
+        with self.opened() as file:
+            file.execute(f"INSERT OR IGNORE INTO endings (booking, why, at) VALUES (?, ?, {NOW})", (booking, why))
+
+    def end(self, booking, state):
+        """Notes that a session is `complete` or `closed`. A close for which there is no other reason was one of the staff."""
+        why = "answered" if state == "complete" else "staff"
+        with self.opened() as file:
+            file.execute(f"INSERT INTO endings (booking, why, state, at) VALUES (?1, ?2, ?3, {NOW}) ON CONFLICT (booking) DO UPDATE SET "
+                         "state = ?3, why = CASE WHEN ?3 = 'complete' THEN 'answered' WHEN why = 'answered' THEN 'staff' ELSE why END "
+                         "WHERE state IS NOT ?3", (booking, why, state))
+
+    def ending(self, booking):
+        with self.opened() as file:
+            found = file.execute("SELECT why, state FROM endings WHERE booking = ?", (booking,)).fetchone()
+        return Ending(*found) if found else None
+
+    def to_be_ended(self, grace):
+        """The bookings whose time is over since `grace` seconds, or whose end shadowd did not acknowledge yet."""
+        with self.opened() as file:
+            rows = file.execute("SELECT booking FROM clocks WHERE ends_at <= ? AND paused_at IS NULL AND booking NOT IN "
+                                "(SELECT booking FROM endings) UNION SELECT booking FROM endings WHERE state IS NULL", (self.now() - grace,))
+            return [booking for booking, in rows]
+
+    def moment(self):
+        """The time now, as the file has it."""
+        with self.opened() as file:
+            return file.execute(f"SELECT {NOW}").fetchone()[0]
+
+    def show(self, booking, step, item, asked_at):
+        """Notes that shadowd waits for an answer to this item, by a place that was asked for at this moment. An answer that is on its
+        way stays, and one that was acknowledged since that moment."""
+        with self.opened() as file:
+            file.execute("DELETE FROM endings WHERE booking = ? AND why = 'answered'", (booking,))  # of a journal that is no more
             file.execute(f"INSERT INTO answers (booking, step, item, shown_at) VALUES (?, ?, ?, {NOW}) "
                          "ON CONFLICT (booking, step) DO UPDATE SET item = excluded.item, shown_at = excluded.shown_at, "
                          "option = NULL, response = NULL, given_at = NULL, kept_at = NULL "
-                         "WHERE item != excluded.item OR kept_at IS NOT NULL", (booking, step, item))
+                         "WHERE item != excluded.item OR kept_at < ?", (booking, step, item, asked_at))
 
     def shown(self, booking, step):
         """The item that was shown at a step and the option that was chosen, or None."""

@@ -19,6 +19,7 @@ import web
 from booking_desk import Desk
 from exam_server import Away, ExamServer
 from readers import Refused, read_documents, read_journal, sessions_of
+from words import Words
 
 FRESH, PATIENCE = 3, 120  # seconds for which a page is shown again; seconds for an audit
 
@@ -92,7 +93,7 @@ def make_app(settings):
     app, room = Flask(__name__), ControlRoom(settings)
     app.before_request(room.staff_only)
     app.add_url_rule("/", "page", room.page)
-    return web.secured(app, "/")
+    return web.secured(app, "/", Words("en"))
 
 
 if __name__ == "__main__":

@@ -39,9 +39,14 @@ class ExamServer:
         """Starts the session of a booking, or finds it. Its examinee never gets the items of `without`."""
         return self.place("/sessions", {"booking": booking, **({"without": list(without)} if without else {})})
 
-    def answer(self, session, step, response):
-        """Records the response to the item of a step. If it is recorded already, the reply is the place now."""
-        return self.place(f"/sessions/{session}/answers", {"step": step, "response": response})
+    def answer(self, booking, session, step, response):
+        """Records the response to the item of a step. If it is recorded already, the reply is the place now. A session that is not the
+        booking's is refused as `other-booking`."""
+        return self.place(f"/sessions/{session}/answers", {"booking": booking, "step": step, "response": response})
+
+    def close(self, booking, session):
+        """Closes the booking's session before its end. One that has ended is refused as `is-closed`."""
+        return self.place(f"/sessions/{session}/close", {"booking": booking})
 
     def exposure(self):
         """The number of finished sessions, and by item in how many of them it was shown."""

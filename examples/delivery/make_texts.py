@@ -23,6 +23,17 @@ SITUATIONS = {
     "S4": ("The picnic", "You have carried a basket up a hill for an hour. At the top your companion finds that the food was "
                          "left at home, and that the basket has only plates in it."),
 }
+LIFT_TEXT = "A drawing of the lift between two floors: its upper half is at the third floor, its lower half at the second."
+LIFT = """<svg xmlns="http://www.w3.org/2000/svg" viewBox="0 0 320 200" width="320" height="200">
+<rect width="320" height="200" fill="#ffffff"/>
+<g stroke="#1a1a1a" stroke-width="3" fill="none">
+<path d="M110 5V195M210 5V195M20 100H110M210 100H300"/>
+<rect x="120" y="50" width="80" height="100" fill="#d6e4f0"/>
+<path d="M160 50V150M160 50V5"/>
+</g>
+<g font-family="sans-serif" font-size="28" fill="#1a1a1a"><text x="50" y="75">3</text><text x="50" y="150">2</text></g>
+</svg>
+"""
 MODES = {"Want": "would you want to", "Do": "would you"}
 TYPES = {"Curse": "mutter to yourself", "Scold": "tell somebody what you think of it", "Shout": "say it loudly"}
 
@@ -44,7 +55,8 @@ def arithmetic(item, draw):
     wrong = [result + by for by in draw.sample([-20, -10, -2, -1, 1, 2, 10, 20], 3)]
     key = "ABCD".index(attributes["KEY"])
     options = [str(value) for value in wrong[:key] + [result] + wrong[key:]]
-    text = f"Made-up item ({attributes['DOMAIN']}).\n\nHow much is {left} {'times' if hard else 'plus'} {right}?"
+    sum_or_product = f"<math><mn>{left}</mn><mo>×</mo><mn>{right}</mn></math>" if hard else f"{left} plus {right}"
+    text = f"Made-up item ({attributes['DOMAIN']}).\n\nHow much is {sum_or_product}?"
     return item_text(text, options, [int(place == key) for place in range(4)])
 
 
@@ -57,7 +69,7 @@ def attitude(item):
 
 def write(folder, name, text):
     os.makedirs(folder, exist_ok=True)
-    with open(os.path.join(folder, name + ".toml"), "w", encoding="utf-8") as file:
+    with open(os.path.join(folder, name), "w", encoding="utf-8") as file:
         file.write(text)
 
 
@@ -68,11 +80,13 @@ def main(folder):
             found = json.load(file)
         for item in found["items"]:
             text = arithmetic(item, draw) if example == "knowledge" else attitude(item)
-            write(os.path.join(folder, example), item["id"], text)
+            write(os.path.join(folder, example), item["id"] + ".toml", text)
         for passage in found["passages"]:
             title, text = SITUATIONS[passage]
             whole = quoted("Made-up situation.\n\n" + text)
-            write(os.path.join(folder, example, "passages"), passage, f"{REMARK}title = {quoted(title)}\ntext = {whole}\n")
+            shown = f"pictures = [{{ file = \"lift.svg\", text = {quoted(LIFT_TEXT)} }}]\n" if passage == "S1" else ""
+            write(os.path.join(folder, example, "passages"), passage + ".toml", f"{REMARK}title = {quoted(title)}\ntext = {whole}\n{shown}")
+    write(os.path.join(folder, "aggression", "passages"), "lift.svg", LIFT)
 
 
 if __name__ == "__main__":

@@ -97,6 +97,8 @@ class Settings:
     token: str = setting(path, "")  # file with the token of shadowd; else SHADOWD_TOKEN of the environment, if it is set
     connections: int = setting(whole(1, 250), 12)  # requests to shadowd at a time; with the control room's 2 fewer than its workers
     patience: float = setting(number(0.1, 600), 5.0)  # seconds for a reply of shadowd, three times
+    minutes: float = setting(number(0, 10_000), 0.0)  # of a test, by the clock of this machine; 0 is no limit
+    language: str = setting(one_of("en", "de"), "en")  # of the pages for examinees
     show_score: bool = setting(truth, False)
     estimate: str = setting(one_of("eap", "mode"), "eap")  # of the score that is shown; tools/score.py has two more
     scale: tuple = setting(scale, (0.0, 1.0))  # the reported score is A + B * ability

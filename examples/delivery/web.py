@@ -2,18 +2,19 @@
 import logging
 import sqlite3
 import sys
+import threading
+import time
 
 import waitress
 from flask import render_template, request
-from flask_wtf.csrf import CSRFError
 from werkzeug.exceptions import HTTPException, ServiceUnavailable
 
 from readers import Refused
 from settings import BadInput, read_settings
 
 HEADERS = {
-    "Content-Security-Policy": "default-src 'none'; style-src 'self'; img-src data:; form-action 'self'; base-uri 'none'; "
-                               "frame-ancestors 'none'",
+    "Content-Security-Policy": "default-src 'none'; style-src 'self'; script-src 'self'; worker-src 'self'; connect-src 'self'; "
+                               "img-src 'self' data:; form-action 'self'; base-uri 'none'; frame-ancestors 'none'",
     "X-Frame-Options": "DENY",
     "X-Content-Type-Options": "nosniff",
     "Referrer-Policy": "same-origin",
@@ -21,30 +22,31 @@ HEADERS = {
 }
 
 
-# The heading and the text of a fault's page, by its status, in place of the framework's.
+# The heading and the text of a fault's page, by its status, as names of words.
 FAULTS = {
-    404: ("There is no such page", "Nothing was changed by it. If a link led you here, call the staff."),
-    405: ("This page is not used so", "Nothing was changed by it. If a link led you here, call the staff."),
-    413: ("That was too long", "Nothing was recorded from it."),
+    400: ("fault_old", "fault_old_text"),
+    404: ("fault_page", "fault_link"),
+    405: ("fault_use", "fault_link"),
+    413: ("fault_long", "fault_long_text"),
+    503: ("fault_store", "fault_store_text"),
 }
-HEADINGS = {400: "This page can't be used any more", 503: "Please try again"}
 
 
-def secured(app, home):
-    """The application with these headers, and with a page for each fault that leads to `home`."""
+def secured(app, home, say):
+    """The application with these headers, and with a page for each fault that leads to `home`, in these words."""
     def fault_page(fault):
-        if isinstance(fault, CSRFError):
-            fault.description = "This page has expired, or it belongs to another sign-in. Nothing was recorded from it. Cookies have to be allowed."
-        name, text = FAULTS.get(fault.code, (HEADINGS.get(fault.code, fault.name), fault.description))
-        return render_template("fault.html", name=name, text=text, home=home), fault.code
+        name, text = FAULTS.get(fault.code, ("fault_other", "fault_other_text"))
+        return render_template("fault.html", name=say(name), text=say(text), home=home), fault.code
 
     def store_fault(fault):
         print(f"delivery: {fault}", file=sys.stderr, flush=True)
-        return fault_page(ServiceUnavailable("If you gave an answer, it is perhaps not kept. Go on, and answer the item that you see then. If this page comes again, call the staff."))
+        return fault_page(ServiceUnavailable())
 
     def with_headers(response):
         response.headers.update(HEADERS)
-        if request.endpoint != "static" or response.status_code >= 400:
+        if request.endpoint == "worker":
+            response.headers["Cache-Control"] = "no-cache"
+        elif request.endpoint != "static" or response.status_code >= 400:
             response.headers["Cache-Control"] = "no-store"
         return response
 
@@ -68,6 +70,16 @@ def server_of(app, settings, address):
         raise BadInput(f"{address} can't be listened at: {error}") from error
 
 
+def repeat(name, act, seconds):
+    """Does something each so many seconds, for as long as the process lives. A fault is logged, and the next time comes."""
+    while True:
+        try:
+            act()
+        except Exception:
+            logging.exception("%s", name)
+        time.sleep(seconds)
+
+
 def run(make_app, address, words):
     """Serves the application of the settings that the words name, at the address of that name. The status is 1 or 2 where a new
     start would meet the same fault, and 3 where it need not."""
@@ -76,11 +88,14 @@ def run(make_app, address, words):
         return 2
     try:
         settings = read_settings(words[0])
-        server = server_of(make_app(settings), settings, getattr(settings, address))
+        app = make_app(settings)
+        server = server_of(app, settings, getattr(settings, address))
     except (BadInput, Refused, OSError, sqlite3.Error) as error:
         print(error, file=sys.stderr)
         return 1
     logging.basicConfig()
+    for name, (act, seconds) in app.extensions.get("background", {}).items():
+        threading.Thread(target=repeat, args=(name, act, seconds), daemon=True).start()
     try:
         server.run()
     except Exception:  # whoever keeps the application up starts it again

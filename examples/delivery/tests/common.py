@@ -160,9 +160,29 @@ class StandIn:
         self.recorded.setdefault(session, [])
         return self.place(session)
 
-    def answer(self, session, step, response):
+    def require_own(self, booking, session):
+        from exam_server import Refused
+        if self.sessions.get(booking) != session:
+            raise Refused("other-booking")
+
+    def close(self, booking, session):
         from exam_server import Away, Refused
         self.asked += 1
+        self.require_own(booking, session)
+        fault = self.lost.pop(0) if self.lost else ""
+        if fault == "before":
+            raise Away("the stand-in lost the request")
+        if self.place(session).state != "waiting":
+            raise Refused("is-closed", self.place(session).state)
+        self.closed.add(session)
+        if fault == "after":
+            raise Away("the stand-in lost the reply")
+        return self.place(session)
+
+    def answer(self, booking, session, step, response):
+        from exam_server import Away, Refused
+        self.asked += 1
+        self.require_own(booking, session)
         fault = self.lost.pop(0) if self.lost else ""
         if fault == "before":
             raise Away("the stand-in lost the request")

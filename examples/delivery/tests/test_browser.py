@@ -4,7 +4,7 @@ import re
 
 from common import LIMIT, Examination, needs_browser, needs_flask, needs_program, wait_until
 
-WIDTHS = (1280, 320)
+WIDTHS = (1440, 320)
 STARTED, IDLE = [], []  # browsers of this run, and those of them that no test has
 
 
@@ -56,7 +56,7 @@ if (!document.documentElement.lang) found.push('no language');
 if (document.querySelectorAll('h1').length !== 1) found.push('not one h1');
 if (document.querySelectorAll('main').length !== 1) found.push('not one main');
 if (!document.title.trim()) found.push('no title');
-if (document.querySelector('script')) found.push('a script');
+if (document.querySelector('script:not([src^="/static/"])')) found.push('a script');
 const levels = [...document.querySelectorAll('h1, h2, h3, h4')].map(h => +h.tagName[1]);
 levels.forEach((level, k) => { if (level > (k ? levels[k - 1] : 0) + 1) found.push('a level of headings is left out'); });
 for (const field of document.querySelectorAll('input:not([type=hidden])'))
@@ -85,7 +85,7 @@ class InBrowser(Examination):
     def setUp(self):
         super().setUp()
         self.server = self.start_server()
-        self.start_pages()
+        self.pages = self.start_pages()
         self.base = f"http://127.0.0.1:{self.ports['listen']}/"
 
     def browser(self):
@@ -232,6 +232,62 @@ class Sittings(InBrowser):
         session = self.journal_sessions()[0]
         self.assertEqual(session.responses, [self.key_of(item, option) for item, option in zip(session.items, (0, 1))])
 
+    def test_no_network(self):
+        """The application ends, which is to a browser as no network is. The page of the worker comes, and goes on by itself."""
+        driver = self.browser()
+        driver.set_script_timeout(LIMIT)
+        self.begin(driver, 70)
+        wait_until(lambda: driver.execute_script("return navigator.serviceWorker.controller !== null"), "the worker is there")
+        self.choose(driver, 0)
+        self.title(driver, "Item 2 of")
+        self.kill(self.pages)
+        self.choose(driver, 3)
+        self.title(driver, "There is no network")
+        self.assertIn("What you answered before is recorded.", self.text(driver))
+        self.assertEqual(driver.execute_script("return getComputedStyle(document.querySelector('.button')).backgroundColor"), "rgb(11, 74, 130)")
+        kept = driver.execute_async_script("""
+            const done = arguments[0], all = [];
+            (async () => { for (const name of await caches.keys()) for (const one of await (await caches.open(name)).keys()) all.push(new URL(one.url).pathname); done(all.sort()); })();""")
+        self.assertEqual(kept, ["/no-network", "/static/delivery.css", "/static/no_network.js"])
+        self.start_pages()
+        self.title(driver, "Item 2 of")  # by itself: the answer that did not come is asked again
+        self.choose(driver, 1)
+        self.title(driver, "Item 3 of")
+        session = self.journal_sessions()[0]
+        self.assertEqual(session.responses, [self.key_of(item, option) for item, option in zip(session.items, (0, 1))])
+
+    def test_a_pause_and_the_end_of_the_time(self):
+        """The page that is open learns of both by itself, and sends the option that is chosen at the end."""
+        driver, desk = self.browser(), self.desk()
+        self.change_settings(minutes="30")
+        self.kill(self.pages)
+        self.start_pages()
+        self.begin(driver, 70)
+        self.assertRegex(self.text(driver), r"Time left: (30:00|29:\d\d)")
+        desk.pause(70)
+        self.title(driver, "Your test is paused")
+        desk.extend(70, 12 - desk.clock(70).left(desk.now()))
+        desk.resume(70)
+        self.title(driver, "Item 1 of")
+        self.assertIn("Less than one minute is left.", self.text(driver))
+        driver.find_elements("css selector", ".option")[2].click()
+        self.title(driver, "The test has ended")
+        self.assertIn("Your time is over", self.text(driver))
+        self.assertIn("1 of 20", self.text(driver))
+        session = self.journal_sessions()[0]
+        self.assertEqual((session.responses, session.closed), ([self.key_of(session.items[0], 2)], True))
+
+    def test_the_end_of_the_time_without_scripts(self):
+        self.change_settings(minutes="30")
+        self.kill(self.pages)
+        self.start_pages()
+        driver, desk = self.without_scripts(), self.desk()
+        self.begin(driver, 70)
+        desk.extend(70, 3 - desk.clock(70).left(desk.now()))
+        driver.get(self.base + "test")
+        self.assertIn("Time left: 1 min", self.text(driver))
+        self.title(driver, "The test has ended")
+
     def test_two_examinees(self):
         first, second = self.browser(), self.browser()
         self.begin(first, 70)
@@ -305,6 +361,9 @@ class Looks(InBrowser):
         self.look(driver, "a wrong code")
         self.sign_in(driver, 70)
         self.look(driver, "welcome")
+        driver.get(self.base + "no-network")
+        self.look(driver, "no network")
+        driver.get(self.base + "test")
         self.keys(driver, Keys.TAB)
         self.assertEqual(self.focused(driver), ["BUTTON", "solid", 3])
         driver.find_element("css selector", "button").click()
@@ -318,11 +377,20 @@ class Looks(InBrowser):
         driver.find_element("css selector", "button").click()
         self.title(driver, "Error: Item 1 of 9")
         self.look(driver, "an item without an answer")
+        driver.execute_script("document.documentElement.className = 'contrast'")
+        self.look(driver, "an item in high contrast")
+        driver.execute_script("document.documentElement.className = ''")
+        self.assertTrue(driver.execute_script("const one = document.querySelector('.passage img'); return one.complete && one.naturalWidth > 0"))
         driver.execute_cdp_cmd("Emulation.setEmulatedMedia", {"media": "print"})
         self.assertFalse(driver.find_element("css selector", "button").is_displayed())
         self.assertTrue(driver.find_element("css selector", ".passage").is_displayed())
         self.assertEqual(len([one for one in driver.find_elements("css selector", ".option") if one.is_displayed()]), 3)
         driver.execute_cdp_cmd("Emulation.setEmulatedMedia", {"media": ""})
+        self.desk().pause(70)
+        driver.get(self.base + "test?renew=no")
+        self.look(driver, "a pause")
+        self.desk().resume(70)
+        driver.get(self.base + "test")
         self.kill(self.server)
         self.choose(driver, 0)
         self.title(driver, "Please wait")

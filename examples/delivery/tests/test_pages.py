@@ -172,6 +172,11 @@ class Forgery(WithStandIn):
         self.assertEqual((self.recorded(70), self.recorded(71)), ([], []))
         self.assertEqual(self.desk().given(71, False), [])
 
+    def scripts_of(self, page):
+        """What a page has of scripts, but for elements that name a file of the application."""
+        return [one for one in re.findall(r"(?is)<script.*?</script>| on\w+\s*=|javascript:", page)
+                if not re.fullmatch(r'<script src="/static/\w+\.js" defer></script>', one)]
+
     def test_headers(self):
         client = self.begun(70)
         for path, status in (("/", 200), ("/test", 200), ("/nowhere", 404), ("/begin", 405), ("/static/delivery.css", 200),
@@ -185,8 +190,9 @@ class Forgery(WithStandIn):
                 policy = reply.headers["Content-Security-Policy"]
                 self.assertIn("default-src 'none'", policy)
                 self.assertIn("frame-ancestors 'none'", policy)
-                self.assertNotIn("script-src", policy)
-                self.assertNotIn("<script", reply.get_data(as_text=True))
+                self.assertRegex(policy, r"; script-src 'self'; ")
+                self.assertNotIn("unsafe", policy)
+                self.assertEqual(self.scripts_of(reply.get_data(as_text=True)), [])
         self.assertEqual(Client(self.app).post("/", code="x" * 5000).status_code, 413)
 
     def test_the_cookie_is_out_of_reach(self):
@@ -337,6 +343,240 @@ class Answers(WithStandIn):
 
 
 @needs_flask
+class Times(WithStandIn):
+    """A limit of 30 minutes. A test moves the end, in place of waiting for it."""
+
+    def setUp(self):
+        super().setUp()
+        self.change_settings(minutes="30")
+        self.app = self.make_app()
+
+    def look(self, app=None):
+        """What the application does by itself, each five seconds."""
+        (app or self.app).extensions["background"]["ending"][0]()
+
+    def left(self, booking):
+        desk = self.desk()
+        return desk.clock(booking).left(desk.now())
+
+    def test_the_limit_is_said_and_begins_with_the_test(self):
+        client = Client(self.app)
+        self.desk().extend(70, 450)
+        client.sign_in(self.desk().issue(70))
+        self.assertIn("You have 37.5 minutes for all of it.", client.page)
+        self.assertIsNone(self.left(70))
+        client.post("/begin", **client.hidden())
+        self.assertAlmostEqual(self.left(70), 30 * 60 + 450, delta=20)
+        before = self.desk().clock(70)
+        client.get()
+        client.client.post("/begin", data=client.hidden())
+        self.assertEqual(self.desk().clock(70), before)
+        self.assertRegex(client.page, r'data-left="22\d\d\.\d"')
+
+    def test_no_limit(self):
+        self.change_settings(minutes="")
+        client = self.begun(71, self.make_app())
+        self.assertNotIn("data-left", client.page)
+        self.assertNotIn("Time left", client.page)
+        self.assertEqual(client.client.get("/clock").get_json(), {"state": "running", "left": None})
+
+    def test_the_end_of_the_time(self):
+        """Within the grace an answer counts; after it none does. The session is closed, and the last page has why."""
+        for late, answers in ((1, 2), (7, 1)):
+            with self.subTest(late):
+                booking = 70 + late
+                client = self.begun(booking)
+                client.answer(0)
+                self.desk().extend(booking, -self.left(booking) - late)
+                client.answer(1)
+                self.assertIn("<h1>Your time is over</h1>", client.page)
+                self.assertIn(f"Your answers up to then are recorded: {answers} of 20.", client.page)
+                self.assertEqual("The time was over before that answer came." in client.page, late == 7)
+                self.assertEqual(len(self.recorded(booking)), answers)
+                self.assertIn(self.server.sessions[booking], self.server.closed)
+                self.assertEqual(self.desk().ending(booking), ("time", "closed"))
+
+    def test_an_examinee_who_never_asks_again(self):
+        for booking in (70, 71, 72):
+            self.begun(booking)
+        desk = self.desk()
+        desk.extend(70, -self.left(70) - 6)
+        desk.extend(71, -self.left(71) - 1)
+        self.look()
+        self.assertEqual([self.server.sessions[booking] in self.server.closed for booking in (70, 71, 72)], [True, False, False])
+
+    def test_an_end_whose_request_or_reply_is_lost(self):
+        """The reason is noted before shadowd is asked; so another application that goes on knows it."""
+        for fault in ("before", "after"):
+            with self.subTest(fault):
+                booking = {"before": 70, "after": 71}[fault]
+                self.begun(booking)
+                self.desk().extend(booking, -self.left(booking) - 6)
+                self.server.lost = [fault]
+                self.look()
+                self.assertEqual(self.desk().ending(booking), ("time", None))
+                self.assertEqual(self.server.sessions[booking] in self.server.closed, fault == "after")
+                again = self.make_app()
+                self.look(again)
+                self.assertEqual(self.desk().ending(booking), ("time", "closed"))
+                self.assertIn(self.server.sessions[booking], self.server.closed)
+
+    def test_an_answer_on_its_way_goes_before_the_close(self):
+        client = self.begun(70)
+        self.server.lost = ["before"]
+        client.answer(2)
+        self.desk().extend(70, -self.left(70) - 6)
+        self.look()
+        self.assertEqual((self.recorded(70), self.server.closed), ([self.response(0, 2)], {0}))
+
+    def test_a_pause(self):
+        """The time stands still; an answer to the item that was seen counts; after the pause the next item comes."""
+        client = self.begun(70)
+        desk, page = self.desk(), client.hidden()
+        desk.extend(70, 300 - self.left(70))
+        desk.now = lambda: 1000 + desk_time[0]
+        desk_time = [desk.clock(70).ends_at - 1300]  # 300 seconds are left
+        desk.pause(70)
+        desk_time[0] += 9000
+        desk.pause(70)
+        self.assertAlmostEqual(self.left(70), 300, delta=0.1)
+        self.look()
+        client.get()
+        self.assertIn("<h1>Your test is paused</h1>", client.page)
+        self.assertIn("You have 5 minutes left.", client.page)
+        self.assertIsNone(client.place())
+        self.assertEqual(client.client.get("/clock").get_json()["state"], "paused")
+        client.post("/test", **page, option=1)
+        self.assertIn("<h1>Your test is paused</h1>", client.page)
+        self.assertEqual(self.recorded(70), [self.response(0, 1)])
+        desk.resume(70)
+        self.assertAlmostEqual(desk.clock(70).left(desk.now()), 300, delta=0.1)
+        desk.extend(70, 9300)  # for the clock of the application, which did not jump
+        client.get()
+        self.assertEqual((client.place(), self.desk().clock(70).paused_at), (2, None))
+
+    def test_an_end_by_the_staff_that_is_not_acknowledged(self):
+        """No item is shown any more, and no answer is taken."""
+        client = self.begun(70)
+        page = client.hidden()
+        self.desk().ask_to_end(70, "staff")
+        client.post("/test", **page, option=1)
+        self.assertIn("Your test was ended by the staff", client.page)
+        self.assertIn("The test had ended before that answer came.", client.page)
+        self.assertEqual((self.recorded(70), self.server.closed), ([], {0}))
+
+    def test_a_test_that_was_complete_before_its_time(self):
+        client = self.begun(70)
+        for _ in range(20):
+            client.answer(0)
+        self.desk().extend(70, -self.left(70) - 6)
+        self.look()
+        client.get()
+        self.assertIn("Your test is complete", client.page)
+        self.assertEqual((self.desk().ending(70), self.server.closed), (("answered", "complete"), set()))
+
+    def test_a_session_of_another_booking(self):
+        """The journal is another one between two requests: the session is found again, and the other one is left alone."""
+        client = self.begun(70)
+        begin = self.server.begin
+
+        def and_then_exchange(booking, without=()):
+            place = begin(booking, without)
+            self.server.begin = begin
+            self.server.sessions = {71: 0, 70: 1}
+            self.server.recorded = {0: [], 1: []}
+            return place
+
+        self.server.begin = and_then_exchange
+        client.answer(2)
+        self.assertEqual(self.server.recorded, {0: [], 1: [self.response(0, 2)]})
+
+    def test_an_answer_that_another_process_sends_meanwhile(self):
+        """A place that was asked for before the answer was acknowledged takes nothing back."""
+        self.begun(70)
+        desk = self.desk()
+        asked_at = desk.moment()
+        desk.give(70, 0, 1, 0)
+        desk.settle(70, 0, 0)
+        desk.show(70, 0, 0, asked_at)
+        self.assertEqual([one.step for one in desk.given(70, True)], [0])
+
+
+@needs_flask
+class Languages(WithStandIn):
+    def test_both_files_have_the_same_sentences(self):
+        from words import Words, facts_of
+        english, german = Words("en").table, Words("de").table
+        self.assertEqual(list(english), list(german))
+        self.assertEqual({name: facts_of(text) for name, text in english.items()}, {name: facts_of(text) for name, text in german.items()})
+
+    def test_pages_have_no_words_of_their_own(self):
+        """What is left of a template of examinees without its expressions and its elements."""
+        folder = os.path.join(HERE, "templates")
+        for name in sorted(set(os.listdir(folder)) - {"control.html"}):
+            with open(os.path.join(folder, name), encoding="utf-8") as file:
+                left = re.sub(r"(?s){%.*?%}|{{.*?}}|<[^>]*>", "", file.read())
+            self.assertEqual(re.findall(r"\w+", left), [], name)
+
+    def test_a_test_in_german(self):
+        self.change_settings(language='"de"', minutes="30")
+        client = Client(self.make_app())
+        client.begin(self.desk().issue(70))
+        self.assertIn('<html lang="de"', client.page)
+        self.assertIn("<h1>Aufgabe 1 von 20</h1>", client.page)
+        for _ in range(20):
+            client.answer(0)
+        self.assertIn("Ihr Test ist vollständig", client.page)
+        self.assertIn("Diese Seite gibt es nicht", client.get("/nowhere").get_data(as_text=True))
+        self.assertIn("<h1>Es gibt keine Verbindung zum Netz</h1>", client.get("/no-network").get_data(as_text=True))
+
+
+@needs_flask
+class TheWorker(WithStandIn):
+    def test_what_it_keeps(self):
+        """Its page, a style and a script: the files that it names are there, and are the same for each examinee."""
+        client = self.begun(70)
+        source = client.get("/worker.js").get_data(as_text=True)
+        self.assertEqual((client.reply.mimetype, client.reply.headers["Cache-Control"]), ("text/javascript", "no-cache"))
+        kept = re.findall(r'"(/[^"]*)"', source.partition("KEPT = [")[2].partition("]")[0])
+        self.assertEqual(kept, ["/no-network", "/static/delivery.css", "/static/no_network.js"])
+        for path in kept:
+            own, strangers = client.get(path).get_data(), Client(self.app).get(path).get_data()
+            self.assertEqual((client.reply.status_code, own), (200, strangers))
+        client.post("/contrast", **client.get() and client.hidden())
+        self.assertEqual(client.get("/worker.js").get_data(as_text=True), source)
+
+    def test_it_is_another_one_when_its_page_is(self):
+        source = Client(self.app).get("/worker.js").get_data(as_text=True)
+        self.change_settings(language='"de"')
+        self.assertNotEqual(Client(self.make_app()).get("/worker.js").get_data(as_text=True), source)
+
+    def test_a_message_is_not_lost_to_it(self):
+        client = self.begun(70)
+        page = client.hidden()
+        client.answer(0)
+        client.client.post("/test", data={**page, "option": 1})
+        client.client.get("/no-network")
+        client.client.get("/worker.js")
+        client.get()
+        self.assertIn("Item 1 was answered before", client.page)
+
+
+@needs_flask
+class HighContrast(WithStandIn):
+    def test_it_is_chosen_and_taken_back(self):
+        client = Client(self.app)
+        client.sign_in(self.desk().issue(70))
+        self.assertNotIn('class="contrast"', client.page)
+        client.post("/contrast", **client.hidden())
+        self.assertIn('<html lang="en" class="contrast">', client.page)
+        client.post("/begin", **client.hidden())
+        self.assertIn('<html lang="en" class="contrast">', client.page)
+        client.post("/contrast", **client.hidden())
+        self.assertEqual(('class="contrast"' in client.page, client.place()), (False, 1))
+
+
+@needs_flask
 class Retakers(WithStandIn):
     """A booking whose test leaves out what earlier bookings of the person were shown."""
 
@@ -380,11 +620,11 @@ class Texts(WithStandIn):
         self.own_texts()
         self.write("texts/V1.toml", f"text = '''{self.BAD}'''\noptions = ['''{self.BAD}''', 'b']\nresponses = [0, 1]\n")
         page = self.begun(70, self.make_app()).page
-        self.assertNotIn("<script", page)
+        self.assertEqual(re.findall("<script[^>]*>", page), ['<script src="/static/pages.js" defer>'])
         self.assertNotIn("<img", page)
         self.assertEqual(page.count("&lt;script&gt;alert(1)&lt;/script&gt;"), 2)
         self.assertIn("A &lt;b&gt;test&lt;/b&gt;", page)
-        self.assertNotIn("<script", Client(self.app).get("/nowhere/<script>").get_data(as_text=True))
+        self.assertNotIn("<script>", Client(self.app).get("/nowhere/<script>").get_data(as_text=True))
 
     def test_files_that_are_refused(self):
         from settings import BadInput
@@ -393,13 +633,66 @@ class Texts(WithStandIn):
                              ("options", {"options": '"ab"'}), ("one option", {"options": '["a"]', "responses": "[0]"}),
                              ("an empty option", {"options": '["a", ""]'}), ("too few", {"responses": "[0]"}),
                              ("a third category", {"responses": "[0, 2]"}), ("one category", {"responses": "[1, 1]"}),
-                             ("no number", {"responses": "[0, true]"}), ("a fraction", {"responses": "[0, 1.0]"})):
+                             ("no number", {"responses": "[0, true]"}), ("a fraction", {"responses": "[0, 1.0]"}), ("pictures", {"pictures": "'a.png'"})):
             with self.subTest(name):
                 shutil.rmtree(self.path("texts"), ignore_errors=True)
                 self.own_texts()
                 self.write("texts/V1.toml", "".join(f"{key} = {value}\n" for key, value in (good | fields).items()))
                 with self.assertRaisesRegex(BadInput, "V1"):
                     self.make_app()
+
+    FORMULA = '<math alttext="x squared"><msup><mi>x</mi><mn>2</mn></msup><mo>&lt;</mo><mfrac><mn>1</mn><mi>n</mi></mfrac></math>'
+
+    def test_formulas(self):
+        self.own_texts()
+        self.write("texts/V1.toml", f"text = '''Is {self.FORMULA} <b>so</b>?'''\noptions = ['''{self.FORMULA}''', 'x < 2']\nresponses = [0, 1]\n")
+        page = self.begun(70, self.make_app()).page
+        self.assertEqual(page.count(self.FORMULA), 2)
+        self.assertIn(f"<p>Is {self.FORMULA} &lt;b&gt;so&lt;/b&gt;?</p>", page)
+        self.assertIn("<span>x &lt; 2</span>", page)
+
+    def test_formulas_that_are_refused(self):
+        from settings import BadInput
+        self.own_texts()
+        for inside in ("<script>alert(1)</script>", "<mi onclick='x'>x</mi>", "<mi style='color:red'>x</mi>", "<mtext><img src='x'/></mtext>", "<mi>x",
+                       "<annotation-xml encoding='text/html'><b/></annotation-xml>", "<mi href='javascript:x'>x</mi>", "<mspace width='&quot;>'/>", "<maction>x</maction>"):
+            with self.subTest(inside):
+                self.write("texts/V1.toml", f"text = '''<math>{inside}</math>'''\noptions = ['a', 'b']\nresponses = [0, 1]\n")
+                with self.assertRaisesRegex(BadInput, "V1: a formula "):
+                    self.make_app()
+
+    def test_pictures(self):
+        """Each has its text, is had by who was shown the item alone, and is kept in no cache."""
+        self.own_texts()
+        with open(self.path("texts/one.png"), "wb") as file:
+            file.write(b"\x89PNG and so on")
+        self.write("texts/two.svg", "<svg/>")
+        self.write("texts/V1.toml", self.read("texts/V1.toml") + "pictures = [{ file = 'one.png', text = 'A \"map\"' }, { file = 'two.svg', text = 'b' }]\n")
+        client = self.begun(70, self.make_app())
+        found = re.findall(r'<img src="([^"]*)" alt="([^"]*)">', client.page)
+        self.assertEqual(found, [("/picture/0/0", "A &#34;map&#34;"), ("/picture/0/1", "b")])
+        for path, status, kind in (("/picture/0/0", 200, "image/png"), ("/picture/0/1", 200, "image/svg+xml"), ("/picture/0/2", 404, "text/html"),
+                                   ("/picture/1/0", 404, "text/html"), ("/picture/0/-1", 404, "text/html"), ("/picture/99999999999999999999/0", 404, "text/html")):
+            with self.subTest(path):
+                reply = client.client.get(path)
+                self.assertEqual((reply.status_code, reply.mimetype, reply.headers["Cache-Control"]), (status, kind, "no-store"))
+        self.assertEqual(client.client.get("/picture/0/0").get_data(), b"\x89PNG and so on")
+        self.assertEqual(Client(self.app).client.get("/picture/0/0").status_code, 303)
+
+    def test_pictures_that_are_refused(self):
+        from settings import BadInput
+        self.own_texts()
+        self.write("texts/one.png", "PNG")
+        self.write("texts/none.png", "")
+        self.write("one.png", "PNG")
+        good = self.read("texts/V1.toml")
+        for entry in ("{ file = 'one.png' }", "{ file = 'one.png', text = ' ' }", "{ file = 'one.png', text = 'a', alt = 'b' }", "'one.png'", "{ file = 'two.png', text = 'a' }",
+                      "{ file = '../one.png', text = 'a' }", "{ file = 'V2.toml', text = 'a' }", "{ file = 'none.png', text = 'a' }", "{ file = 7, text = 'a' }"):
+            with self.subTest(entry):
+                self.write("texts/V1.toml", f"{good}pictures = [{entry}]\n")
+                with self.assertRaises(BadInput) as caught:
+                    self.make_app()
+                self.assertIn("one.png" if "../" in entry else "V1: ", str(caught.exception))
 
     def test_names_that_lead_elsewhere(self):
         from item_texts import load
