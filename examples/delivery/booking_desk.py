@@ -18,6 +18,7 @@ import threading
 import time
 from typing import NamedTuple
 
+from roll import Roll
 from settings import BadInput, read_settings
 
 ALPHABET, LENGTH = "0123456789ABCDEFGHJKMNPQRSTVWXYZ", 12  # 60 bits, with no I, L, O or U
@@ -76,7 +77,17 @@ class Desk:
         """The connection of this thread, with one transaction, which is on the disk at the end of the block."""
         if not hasattr(self.own, "file"):
             self.own.file = sqlite3.connect(self.path, timeout=10)
+        if self.own.file.in_transaction:  # a block within another one ends with that
+            yield self.own.file
+            return
         with self.own.file as file:
+            yield file
+
+    @contextlib.contextmanager
+    def together(self):
+        """One transaction of all blocks in this one."""
+        with self.opened() as file:
+            file.execute("BEGIN IMMEDIATE")
             yield file
 
     def digest(self, code):
@@ -241,11 +252,14 @@ def main(words):
     except (BadInput, OSError) as error:
         print(error, file=sys.stderr)
         return 1
+    roll = Roll(desk)
     for booking in map(int, bookings):
         if earlier and not desk.withhold(booking, map(int, earlier)):
             print(f"{booking}: the bookings {' '.join(earlier)} were shown no item", file=sys.stderr)
             return 1
-        print(booking, desk.issue(booking))
+        with roll.acting("command line", f"user {os.getuid()} of this machine", "new-code", booking, " ".join(words[at:])):
+            code = desk.issue(booking)
+        print(booking, code)
     return 0
 
 

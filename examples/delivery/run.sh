@@ -45,6 +45,7 @@ random() { "$python" -c 'import secrets; print(secrets.token_hex(32))'; }
 if [ ! -f "$folder/settings.toml" ]; then
     random > "$folder/secret"
     random | cut -c 1-16 > "$folder/staff_password"
+    "$python" "$here/staff.py" "$folder/staff.toml" staff act < "$folder/staff_password"
     random > "$folder/token"
     { cat "$here/../$example/$example.plan.txt"; echo "rate 2 3"; echo "key $(random)"; } > "$folder/plan.txt"
     "$python" - "$here/../$example/$example.map.json" "$folder" <<'MAP'  # a map has the digest of its plan
@@ -66,7 +67,7 @@ texts = "$here/texts/$example"
 journal = "journal"
 store = "delivery.sqlite"
 secret = "secret"
-staff_password = "staff_password"
+staff = "staff.toml"
 token = "token"
 secure_cookies = false  # there is no TLS here, and only this machine reaches the addresses
 show_score = false

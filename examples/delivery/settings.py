@@ -93,7 +93,8 @@ class Settings:
     journal: str = setting(path)
     store: str = setting(path)  # the application's own file: codes, seats, answers on their way
     secret: str = setting(path)  # file with the key of cookies and codes
-    staff_password: str = setting(path)  # file with the password of the control room
+    staff: str = setting(path, "")  # file with the users of the control room, which staff.py writes
+    staff_password: str = setting(path, "")  # file with the password of a user `staff`, who looks alone
     token: str = setting(path, "")  # file with the token of shadowd; else SHADOWD_TOKEN of the environment, if it is set
     connections: int = setting(whole(1, 250), 12)  # requests to shadowd at a time; with the control room's 2 fewer than its workers
     patience: float = setting(number(0.1, 600), 5.0)  # seconds for a reply of shadowd, three times

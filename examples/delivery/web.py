@@ -25,6 +25,7 @@ HEADERS = {
 # The heading and the text of a fault's page, by its status, as names of words.
 FAULTS = {
     400: ("fault_old", "fault_old_text"),
+    403: ("fault_not_yours", "fault_no_change"),
     404: ("fault_page", "fault_link"),
     405: ("fault_use", "fault_link"),
     413: ("fault_long", "fault_long_text"),

@@ -1,5 +1,4 @@
 """What the tests share: an examination in a folder of its own, a stand-in for shadowd, and the program as a process."""
-import base64
 import contextlib
 import hashlib
 import http.client
@@ -14,11 +13,23 @@ import sys
 import tempfile
 import time
 import unittest
+import urllib.parse
 
 HERE = os.path.dirname(os.path.dirname(os.path.abspath(__file__)))
 EXAMPLES = os.path.dirname(HERE)
 PROGRAM = os.environ.get("SHADOWD") or os.path.join(EXAMPLES, "..", "crates", "shadowd", "out", "shadowd")
 LIMIT = 300  # seconds for each wait: the machine may be busy
+
+
+# Two users, whose passwords are `p` and `q` sixteen times, with salts of zeros and a cost that is good for tests alone: the hashes are those of OpenSSL's command
+# openssl kdf -keylen 32 -kdfopt pass:pppppppppppppppp -kdfopt hexsalt:00000000000000000000000000000000 -kdfopt n:1024 -kdfopt r:8 -kdfopt p:1 SCRYPT
+STAFF = """[users.looker]
+role = "look"
+password = "1024:8:1:00000000000000000000000000000000:bfef008843442e6f2cd2b2b46a22379332b82c75c89bea95f25cd3503880bd60"
+[users.actor]
+role = "act"
+password = "1024:8:1:00000000000000000000000000000000:54ef21a0bd00bd64d252bb45a3ed231d9894f3e818f0c08be37e8a86c6ca8bb7"
+"""
 
 
 def has(*modules):
@@ -59,7 +70,7 @@ class Examination(unittest.TestCase):
         self.addCleanup(holder.cleanup)
         self.folder = holder.name
         self.ports = {name: free_port() for name in ("listen", "control_listen", "server")}
-        for name, text in (("secret", "s" * 32), ("staff_password", "p" * 16), ("journal", "")):
+        for name, text in (("secret", "s" * 32), ("journal", ""), ("staff.toml", STAFF)):
             self.write(name, text)
         data = os.path.join(EXAMPLES, self.example, self.example)
         with open(data + ".plan.txt", encoding="ascii") as plan:
@@ -70,7 +81,7 @@ class Examination(unittest.TestCase):
         self.write("map.json", json.dumps(found))
         paths = {"program": PROGRAM, "bank": data + ".bank.csv", "plan": "plan.txt", "map": "map.json",
                  "texts": os.path.join(HERE, "texts", self.example), "journal": "journal", "store": "store", "secret": "secret",
-                 "staff_password": "staff_password", "title": "A <b>test</b>"}
+                 "staff": "staff.toml", "title": "A <b>test</b>"}
         lines = [f'{name} = "127.0.0.1:{port}"' for name, port in self.ports.items()]
         lines += [f'{name} = "{value}"' for name, value in paths.items()]
         self.settings_path = self.write("settings.toml", "\n".join([*lines, "secure_cookies = false", f"patience = {LIMIT}", ""]))
@@ -266,12 +277,22 @@ class LossyDoor:
         client.sendall(reply)
 
 
-def fetch(port, path, password=None):
-    """Status and text of a page."""
-    fields = {} if password is None else {"Authorization": "Basic " + base64.b64encode(f"staff:{password}".encode()).decode()}
+def fetch(port, path, cookie=None, **form):
+    """Status and text of a page, and the cookie that it sets. With fields of a form it is posted."""
+    fields = {} if cookie is None else {"Cookie": cookie}
     connection = http.client.HTTPConnection("127.0.0.1", port, timeout=LIMIT)
-    connection.request("GET", path, headers=fields)
+    if form:
+        connection.request("POST", path, urllib.parse.urlencode(form), fields | {"Content-Type": "application/x-www-form-urlencoded"})
+    else:
+        connection.request("GET", path, headers=fields)
     reply = connection.getresponse()
-    found = reply.status, reply.read().decode()
+    found = reply.status, reply.read().decode(), (reply.headers["Set-Cookie"] or "").partition(";")[0]
     connection.close()
     return found
+
+
+def signed_in(port, user, password):
+    """The cookie of a user of the control room."""
+    page, cookie = fetch(port, "/sign-in")[1:]
+    token = re.search(r'name="csrf_token" value="([^"]*)"', page).group(1)
+    return fetch(port, "/sign-in", cookie, csrf_token=token, user=user, password=password)[2]

@@ -72,7 +72,7 @@ return found;
 
 # In the colours of a person who needs high contrast: what can be pressed and has no edge that is seen.
 EDGES = r"""
-const shown = [...document.querySelectorAll('button, .button, label.option, input.code')].filter(one => one.getBoundingClientRect().width > 0);
+const shown = [...document.querySelectorAll('button, .button, label.option, input.code, .field')].filter(one => one.getBoundingClientRect().width > 0);
 return shown.filter(one => { const style = getComputedStyle(one);
     return parseFloat(style.borderTopWidth) < 1 || style.borderTopStyle === 'none' || style.borderTopColor === getComputedStyle(document.body).backgroundColor;
 }).map(one => one.outerHTML.slice(0, 60));
@@ -86,7 +86,7 @@ class InBrowser(Examination):
         super().setUp()
         self.server = self.start_server()
         self.pages = self.start_pages()
-        self.base = f"http://127.0.0.1:{self.ports['listen']}/"
+        self.base, self.control = (f"http://127.0.0.1:{self.ports[name]}/" for name in ("listen", "control_listen"))
 
     def browser(self):
         """A browser without cookies, from an earlier test if one has ended with it."""
@@ -407,16 +407,55 @@ class Looks(InBrowser):
         self.look(driver, "a fault")
         driver.switch_to.window(second)
         wait_until(lambda: drawn not in driver.page_source and "Of 1 finished sessions" in driver.page_source, "the control room renews itself")
-        driver.get(f"http://127.0.0.1:{self.ports['control_listen']}/?renew=no")
-        self.look(driver, "the control room")
+        driver.get(self.control + "examination?renew=no")
+        self.look(driver, "the examination")
         driver.find_element("css selector", "summary").click()
-        self.look(driver, "the control room with its table")
+        self.look(driver, "the examination with its table")
+        self.staff_pages(driver)
+
+    def staff_pages(self, driver):
+        """A proctor gives extra time and a new code, on pages whose fields have names."""
+        self.desk().issue(71)
+        driver.get(self.control + "?renew=no")
+        self.assertIn(("table", "Bookings 1 to 2 of 2. A line is marked where the last answer is more than 180 seconds old. Times are in UTC."), self.look(driver, "bookings"))
+        driver.find_element("link text", "71").click()
+        self.title(driver, "Booking 71")
+        self.look(driver, "a booking")
+        driver.find_element("link text", "Extra time …").click()
+        self.title(driver, "Extra time: booking 71")
+        named = self.look(driver, "an action")
+        self.assertEqual([name for role, name in named if role == "textbox"], ["Minutes", "The booking, once more", "Your name", "Why (a remark for the log, if there is one)"])
+        for name, text in (("minutes", "10"), ("booking", "70"), ("name", "A. Proctor")):
+            driver.find_element("id", name).send_keys(text)
+        driver.find_element("css selector", "main button").click()
+        self.title(driver, "Error: Extra time: booking 71")
+        self.look(driver, "an action that was typed wrong")
+        driver.find_element("id", "booking").clear()
+        driver.find_element("id", "booking").send_keys("71\n")
+        self.title(driver, "Booking 71")
+        self.assertIn("It is done for booking 71", self.text(driver))
+        self.assertEqual(self.desk().clock(71).extra, 600)
+        driver.get(self.control + "bookings/71/new-code")
+        driver.find_element("id", "booking").send_keys("71")
+        driver.find_element("id", "name").send_keys("A. Proctor\n")
+        self.title(driver, "New code: booking 71")
+        self.look(driver, "a new code")
+        driver.get(self.control + "log")
+        self.look(driver, "the log")
+        driver.find_element("css selector", "nav button").click()
+        self.title(driver, "Sign in")
 
     def drawn(self, driver):
-        """Opens the control room: when its page was drawn."""
+        """Signs in to the control room: when its page of the examination was drawn."""
         self.start_pages("control_room", "control_listen")
-        driver.get(f"http://staff:{'p' * 16}@127.0.0.1:{self.ports['control_listen']}/")
-        self.title(driver, "Control room")
+        driver.get(self.control)
+        self.title(driver, "Sign in")
+        self.look(driver, "the sign-in of staff")
+        driver.find_element("id", "user").send_keys("actor")
+        driver.find_element("id", "password").send_keys("q" * 16, "\n")
+        self.title(driver, "Bookings")
+        driver.get(self.control + "examination")
+        self.title(driver, "Examination")
         return re.search(r"Drawn at (\S+)", self.text(driver)).group(1)
 
 

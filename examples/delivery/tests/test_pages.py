@@ -513,7 +513,7 @@ class Languages(WithStandIn):
     def test_pages_have_no_words_of_their_own(self):
         """What is left of a template of examinees without its expressions and its elements."""
         folder = os.path.join(HERE, "templates")
-        for name in sorted(set(os.listdir(folder)) - {"control.html"}):
+        for name in sorted(set(os.listdir(folder)) - {"staff"}):
             with open(os.path.join(folder, name), encoding="utf-8") as file:
                 left = re.sub(r"(?s){%.*?%}|{{.*?}}|<[^>]*>", "", file.read())
             self.assertEqual(re.findall(r"\w+", left), [], name)
