@@ -39,13 +39,15 @@ class ExamServer:
         """Starts the session of a booking, or finds it. Its examinee never gets the items of `without`."""
         return self.place("/sessions", {"booking": booking, **({"without": list(without)} if without else {})})
 
-    def answer(self, booking, session, step, response):
-        """Records the response to the item of a step. If it is recorded already, the reply is the place now. A session that is not the
-        booking's is refused as `other-booking`."""
-        return self.place(f"/sessions/{session}/answers", {"booking": booking, "step": step, "response": response})
+    def answer(self, session, step, response, booking):
+        """Records the response to the item of a step. If it is recorded already, the reply is the place now.
 
-    def close(self, booking, session):
-        """Closes the booking's session before its end. One that has ended is refused as `is-closed`."""
+        `Refused` with `other-booking` or `no-session`: the server has lost this session of the booking, which has to begin again.
+        """
+        return self.place(f"/sessions/{session}/answers", {"step": step, "response": response, "booking": booking})
+
+    def close(self, session, booking):
+        """Closes a session before its end. `Refused` with `is-closed` if it has ended, else as for an answer."""
         return self.place(f"/sessions/{session}/close", {"booking": booking})
 
     def exposure(self):

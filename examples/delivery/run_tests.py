@@ -1,5 +1,5 @@
 #!/usr/bin/env python3
-"""Runs the tests of the delivery application; the last line is 'N passed, M failed'.
+"""Runs the tests of the delivery application and of the adapter beside it; the last line is 'N passed, M failed'.
 
 usage: run_tests.py [PROGRAM]      the built shadowd; default crates/shadowd/out/shadowd
 
@@ -18,9 +18,10 @@ def main():
         os.execv(DEBIAN, [DEBIAN, os.path.abspath(__file__), *sys.argv[1:]])
     if len(sys.argv) > 1:
         os.environ["SHADOWD"] = os.path.abspath(sys.argv[1])
-    tests = os.path.join(HERE, "tests")
-    sys.path[:0] = [HERE, tests]
-    result = unittest.TextTestRunner(stream=sys.stdout).run(unittest.defaultTestLoader.discover(tests, top_level_dir=tests))
+    folders = [os.path.join(HERE, "tests"), os.path.join(HERE, "..", "cat_api", "tests")]
+    sys.path[:0] = [HERE, *folders]
+    found = [unittest.TestLoader().discover(folder, top_level_dir=folder) for folder in folders]
+    result = unittest.TextTestRunner(stream=sys.stdout).run(unittest.TestSuite(found))
     for test, why in result.skipped:
         print(f"skipped {test.id()}: {why}")
     failed = len(result.failures) + len(result.errors) + len(result.unexpectedSuccesses)

@@ -145,10 +145,8 @@ def line_of(source, name):
     return next((f" line {number}" for number in lines), "")
 
 
-def read_as(kinds, path_of_file):
-    """The settings of a file as a dataclass whose fields have kinds."""
-    found, source = read_table(path_of_file), read_text(path_of_file)
-    folder = os.path.dirname(os.path.abspath(path_of_file))
+def fields_of(kinds, found, source, path_of_file, folder):
+    """The entries of a table as a dataclass whose fields have kinds. The source has the lines that a refusal names."""
     fields, values = {field.name: field for field in dataclasses.fields(kinds)}, {}
     for name, value in found.items():
         where = f"{path_of_file}{line_of(source, name)}: {name}"
@@ -170,4 +168,5 @@ def read_as(kinds, path_of_file):
 
 
 def read_settings(path_of_file):
-    return read_as(Settings, path_of_file)
+    folder = os.path.dirname(os.path.abspath(path_of_file))
+    return fields_of(Settings, read_table(path_of_file), read_text(path_of_file), path_of_file, folder)

@@ -44,9 +44,9 @@ class Sittings:
         place = self.sent(booking)
         if place.state == "waiting":
             try:
-                place = self.server.close(booking, place.session)
+                place = self.server.close(place.session, booking)
             except Refused as refused:
-                if refused.error not in ("is-closed", "other-booking"):
+                if refused.error not in ("is-closed", "other-booking", "no-session"):
                     raise
                 place = self.begin(booking)
         if place.state == "waiting":
@@ -60,25 +60,23 @@ class Sittings:
         for given in self.desk.given(booking, False):
             recorded = given.response
             try:
-                place = self.send(booking, place, given)
-            except Refused as refused:  # closed meanwhile, or answered otherwise by somebody else
+                require_item(place, given)
+                place = self.server.answer(place.session, given.step, given.response, booking)
+            except Refused as refused:  # closed meanwhile, answered otherwise by somebody else, or another server took over
                 log(booking, refused)
                 recorded = refused.value if refused.error == "other" else None
                 place = self.begin(booking)
             self.desk.settle(booking, given.step, recorded)
         return place
 
-    def send(self, booking, place, given):
-        try:
-            return self.server.answer(booking, place.session, given.step, given.response)
-        except Refused as refused:
-            if refused.error != "other-booking":
-                raise
-            log(booking, refused)  # the journal is another one since the session was found
-        return self.server.answer(booking, self.begin(booking).session, given.step, given.response)
-
     def begin(self, booking):
         return self.server.begin(booking, self.desk.withheld(booking))
+
+
+def require_item(place, given):
+    """Refuses an answer to another item than that for which shadowd waits at its step: the journal is of another moment."""
+    if place.state == "waiting" and place.step == given.step and place.item != given.item:
+        raise Refused("other-item", place.item)
 
 
 def log(booking, fault):

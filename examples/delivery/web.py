@@ -64,7 +64,7 @@ def server_of(app, settings, address):
     trusted = {"trusted_proxy": settings.proxy, "trusted_proxy_headers": {"x-forwarded-for", "x-forwarded-proto"}}
     try:
         return waitress.create_server(
-            app, host=host.strip("[]"), port=int(port), threads=16, ident=None, max_request_body_size=8192,
+            app, host=host.strip("[]"), port=int(port), threads=16, ident=None, max_request_body_size=app.config.get("LARGEST_BODY", 8192),
             channel_timeout=20, connection_limit=900, asyncore_use_poll=True, clear_untrusted_proxy_headers=True,
             **(trusted if settings.proxy else {}))
     except (OSError, ValueError) as error:
@@ -81,14 +81,14 @@ def repeat(name, act, seconds):
         time.sleep(seconds)
 
 
-def run(make_app, address, words):
+def run(make_app, address, words, read=read_settings):
     """Serves the application of the settings that the words name, at the address of that name. The status is 1 or 2 where a new
     start would meet the same fault, and 3 where it need not."""
     if len(words) != 1:
         print("usage: SETTINGS", file=sys.stderr)
         return 2
     try:
-        settings = read_settings(words[0])
+        settings = read(words[0])
         app = make_app(settings)
         server = server_of(app, settings, getattr(settings, address))
     except (BadInput, Refused, OSError, sqlite3.Error) as error:

@@ -151,7 +151,7 @@ class Examination(unittest.TestCase):
 
 class StandIn:
     """Sessions as shadowd has them, with the items in order. `lost` has what befalls the next answers: `before` and `after`
-    it is recorded, no reply."""
+    it is recorded, no reply; `taken over`, another server that has no session but those of two other bookings."""
 
     def __init__(self, length=20):
         self.length, self.sessions, self.recorded, self.lost, self.closed, self.asked = length, {}, {}, [], set(), 0
@@ -171,15 +171,11 @@ class StandIn:
         self.recorded.setdefault(session, [])
         return self.place(session)
 
-    def require_own(self, booking, session):
-        from exam_server import Refused
-        if self.sessions.get(booking) != session:
-            raise Refused("other-booking")
-
-    def close(self, booking, session):
+    def close(self, session, booking):
         from exam_server import Away, Refused
         self.asked += 1
-        self.require_own(booking, session)
+        if self.sessions.get(booking) != session:
+            raise Refused("other-booking")
         fault = self.lost.pop(0) if self.lost else ""
         if fault == "before":
             raise Away("the stand-in lost the request")
@@ -190,13 +186,18 @@ class StandIn:
             raise Away("the stand-in lost the reply")
         return self.place(session)
 
-    def answer(self, booking, session, step, response):
+    def answer(self, session, step, response, booking):
         from exam_server import Away, Refused
         self.asked += 1
-        self.require_own(booking, session)
         fault = self.lost.pop(0) if self.lost else ""
         if fault == "before":
             raise Away("the stand-in lost the request")
+        if fault == "taken over":
+            self.sessions, self.recorded = {901: 0, 902: 1}, {0: [], 1: []}
+        if session not in self.recorded:
+            raise Refused("no-session", len(self.recorded))
+        if self.sessions.get(booking) != session:
+            raise Refused("other-booking")
         answers = self.recorded[session]
         if step < len(answers):
             if answers[step] != response:

@@ -312,6 +312,16 @@ class Answers(WithStandIn):
         self.assertEqual(client.place(), 2)
         self.assertEqual([one.response for one in self.desk().given(70, True)], [1 - self.response(0, 0)])
 
+    def test_a_server_that_took_over_and_gave_the_session_to_another_booking(self):
+        """The answer is nobody else's: the booking begins again, and its examinee answers the item once more."""
+        client = self.begun(70)
+        self.server.lost = ["taken over"]
+        client.answer(0)
+        self.assertEqual((self.server.sessions, self.server.recorded), ({901: 0, 902: 1, 70: 2}, {0: [], 1: [], 2: []}))
+        self.assertEqual((client.place(), self.desk().given(70, False), self.desk().given(70, True)), (1, [], []))
+        client.answer(0)
+        self.assertEqual((client.place(), self.recorded(70)), (2, [self.response(0, 0)]))
+
     def test_a_session_that_the_staff_closed(self):
         client = self.begun(70)
         client.answer(0)
@@ -475,21 +485,16 @@ class Times(WithStandIn):
         self.assertIn("Your test is complete", client.page)
         self.assertEqual((self.desk().ending(70), self.server.closed), (("answered", "complete"), set()))
 
-    def test_a_session_of_another_booking(self):
-        """The journal is another one between two requests: the session is found again, and the other one is left alone."""
-        client = self.begun(70)
-        begin = self.server.begin
-
-        def and_then_exchange(booking, without=()):
-            place = begin(booking, without)
-            self.server.begin = begin
-            self.server.sessions = {71: 0, 70: 1}
-            self.server.recorded = {0: [], 1: []}
-            return place
-
-        self.server.begin = and_then_exchange
-        client.answer(2)
-        self.assertEqual(self.server.recorded, {0: [], 1: [self.response(0, 2)]})
+    def test_a_journal_that_has_another_item_at_the_step(self):
+        """The answer is not recorded for the other item, which is shown in its place."""
+        client, place = self.begun(70), self.server.place
+        client.answer(0)
+        self.server.place = lambda session: place(session)._replace(item=9) if len(self.recorded(70)) == 1 else place(session)
+        client.answer(1)
+        self.assertEqual((client.place(), self.recorded(70)), (2, [self.response(0, 0)]))
+        self.assertEqual(self.desk().shown(70, 1), (9, None))
+        client.answer(1)
+        self.assertEqual(self.recorded(70), [self.response(0, 0), self.response(9, 1)])
 
     def test_an_answer_that_another_process_sends_meanwhile(self):
         """A place that was asked for before the answer was acknowledged takes nothing back."""
