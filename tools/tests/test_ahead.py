@@ -6,7 +6,7 @@ import unittest
 
 import drill_texts
 from common import PROGRAM, Folder, needs_program
-from exam_client import Connection, Server, answer, begin, request_bytes
+from exam_client import Connection, Server, answer, begin, close, request_bytes
 
 NUMBER, SESSIONS = 7, 3
 AHEAD = 16
@@ -18,10 +18,6 @@ def message_of(line):
     name, *numbers = line.split()
     first, *rest = map(int, numbers)
     return {"begin": begin, "answer": answer, "close": close}[name](first, *rest)
-
-
-def close(session):
-    return request_bytes("POST", f"/sessions/{session}/close")
 
 
 def look(session):

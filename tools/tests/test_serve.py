@@ -135,6 +135,53 @@ class Session(Serving):
         self.assertEqual(self.end()[0], 0)
 
 
+@needs_program
+class TakenOver(Serving):
+    """A server goes on with a copy of the journal that lacks the last session: its number is another booking's then."""
+
+    def served(self, entries, sessions, *requests):
+        """The replies of a server with this many entries and sessions, which then ends."""
+        connection = http.client.HTTPConnection("127.0.0.1", self.port(self.start(), entries, sessions), timeout=LIMIT)
+        found = []
+        for path, body in requests:
+            connection.request("POST", path, json.dumps(body))
+            response = connection.getresponse()
+            found.append((response.status, json.loads(response.read())))
+        connection.close()
+        self.assertEqual(self.end()[0], 0)
+        return found
+
+    def test_a_booking_that_is_named_keeps_its_own_session(self):
+        begin, answers, close = "/sessions", "/sessions/1/answers", "/sessions/1/close"
+        first, lost, other = {"booking": 70}, {"booking": 71}, {"booking": 72}
+        self.served(0, 0, (begin, first))
+        shutil.copy(self.path("journal"), self.path("copy"))
+        place = {"item": 2, "proved": True, "session": 1, "state": "waiting", "step": 0}
+        self.assertEqual(self.served(2, 1, (begin, lost)), [(201, place)])
+        os.replace(self.path("copy"), self.path("journal"))
+        refused, own = (409, {"error": "other-booking"}), {**place, "item": 4, "step": 1}
+        found = self.served(
+            2, 1, (answers, {"step": 0, "response": 0, **lost}), (close, lost), (begin, other), (answers, {"step": 0, "response": 0, **lost}),
+            (close, lost), (answers, {"step": 0, "response": 1, **other}), (answers, {"step": 0, "response": 1, **other}),
+            (answers, {"step": 0, "response": 0, **lost}), (answers, {"step": 7, "response": 9, **lost}), (begin, lost), (begin, other))
+        gone = (404, {"error": "no-session", "value": 1})
+        self.assertEqual(found, [gone, gone, (201, place), refused, refused, (200, own), (200, own), refused, refused,
+                                 (201, {**place, "session": 2}), (200, own)])
+        self.assertEqual(self.replay("answer 1 1 0 for 71", "close 1 for 71", "answer 1 1 0 for 72", "close 2 for 71", "look 1"),
+                         ["refused other-booking", "refused other-booking", "session 1 step 2 item 1 proved", "session 2 closed",
+                          "session 1 step 2 item 1 proved"])
+
+    def test_bodies_that_name_no_booking(self):
+        answers, close, bad = "/sessions/0/answers", "/sessions/0/close", (422, {"error": "bad-body"})
+        asked = [("/sessions", {"booking": 70})]
+        for value in (None, "70", 70.0, -1, 2**64, [70], True):
+            asked += [(answers, {"step": 0, "response": 1, "booking": value}), (close, {"booking": value})]
+        found = self.served(0, 0, *asked, (close, [71]), (close, {"booking": 71}), (close, {"booking": 70}))
+        self.assertEqual(found[1:15], [bad] * 14)
+        closed = [(200, {"session": 0, "state": "closed"}), (409, {"error": "other-booking"}), (409, {"error": "is-closed", "value": "closed"})]
+        self.assertEqual(found[15:], closed)
+
+
 # What is sent before the client falls silent.
 SILENT = {"nothing": b"", "half a head": b"POST /sess", "half a body": b"POST /sessions HTTP/1.1\r\nContent-Length: 14\r\n\r\n{",
           "a whole request": b"GET /sessions/9 HTTP/1.1\r\n\r\n"}

@@ -19,7 +19,7 @@ import torture_cases
 import torture_draws as draws
 import torture_http
 from common import PROGRAM, TOOLS, Folder, needs_program
-from exam_client import answer, begin, request_bytes
+from exam_client import answer, begin, close, request_bytes
 
 BANK = mutate_bank.read(draws.EXAMPLE[0])
 FAULTY = os.path.join(TOOLS, "tests", "faulty_shadowd.py")
@@ -113,14 +113,18 @@ class Plans(unittest.TestCase):
 
 
 class Scripts(unittest.TestCase):
-    """Lines with a list of items that the examinee must not get."""
+    """Lines with a list of items that the examinee must not get, and lines that name a booking."""
 
     def test_lines(self):
         for line, wanted in (
                 (b"begin 7 without 2", [7, frozenset([2])]), (b"begin 18446744073709551615 without 2", [2**64 - 1, frozenset([2])]), (b"begin 7 without 0-2 4 511", [7, frozenset([0, 1, 2, 4, 511])]),
                 (b"begin 7 without", None), (b"begin 7 without ", None), (b"begin 7 without 0 1", None), (b"begin 7 without 2-2", None),
                 (b"begin 7 without 3 1", None), (b"begin 7 without 512", None), (b"begin 7 without 01", None), (b"begin 07 without 1", None),
-                (b"begin 18446744073709551616 without 1", None), (b"begin 7 Without 1", None), (b"begin 7 1", None)):
+                (b"begin 18446744073709551616 without 1", None), (b"begin 7 Without 1", None), (b"begin 7 1", None),
+                (b"answer 0 1 2 for 7", [0, 1, 2, 7]), (b"close 3 for 18446744073709551615", [3, 2**64 - 1]), (b"close 3", [3]),
+                (b"answer 0 1 2 for", None), (b"answer 0 1 2 7", None), (b"answer 0 1 for 7", None), (b"answer 0 1 2 for 7 8", None),
+                (b"answer 0 1 2 for 7 for 7", None), (b"answer 0 1 2 of 7", None), (b"close 3 for 18446744073709551616", None),
+                (b"close 3 for 07", None), (b"close for 7", None), (b"look 3 for 7", None), (b"begin 7 for 7", None), (b"exposure for 7", None)):
             with self.subTest(line):
                 found = text_readers.request_of(line)
                 self.assertEqual(found and found.numbers, wanted)
@@ -214,6 +218,32 @@ class Lists(unittest.TestCase):
                 self.assertEqual(reply_model.lines_of(model.reply(text_readers.request_of(words.encode())), model.rules), [wanted])
 
 
+class Bookings(unittest.TestCase):
+    """The model of answers and closings that name a booking: another one is refused before the step and the response are looked at."""
+
+    SCRIPT = ("answer 0 0 1 for 70\nbegin 70\nanswer 0 0 1 for 71\nbegin 71\nanswer 0 0 1 for 71\nanswer 0 9 9 for 71\nanswer 2 0 1 for 71\nclose 2 for 71\n"
+              "close 0 for 71\nanswer 0 0 1 for 70\nanswer 0 0 0 for 71\nanswer 0 0 0 for 70\nanswer 0 0 1 for 70\nanswer 0 0 1\nclose 0 for 72\nclose 0 for 70\n"
+              "close 0 for 71\nclose 0 for 70\nanswer 0 1 1 for 71\nanswer 0 1 1 for 70\nclose 1\n")
+    REPLIES = ["refused no-session 0", "session 0 step 0 item 2 proved", "refused other-booking", "session 1 step 0 item 2 proved",
+               "refused other-booking", "refused other-booking", "refused no-session 2", "refused no-session 2",
+               "refused other-booking", "session 0 step 1 item 4 proved", "refused other-booking", "refused other 1", "session 0 step 1 item 4 proved",
+               "session 0 step 1 item 4 proved", "refused other-booking", "session 0 closed", "refused other-booking", "refused is-closed closed",
+               "refused other-booking", "refused is-closed closed", "session 1 closed"]
+
+    def test_replies(self):
+        made = journal_maker.Maker(a.BANK, a.PLAN)
+        made.begin(70)
+        made.begin(71)
+        made.answer(0, 0, 1)
+        made.close(0)
+        made.close(1)
+        model = reply_model.Model(made.rules, reply_model.records_of(journal_maker.file_of(journal_maker.TWO, made.new))[0])
+        said = [line for request in text_readers.read_script(self.SCRIPT.encode())
+                for line in reply_model.lines_of(model.reply(request), model.rules)]
+        self.assertEqual(said, self.REPLIES)
+        self.assertEqual(model.taken, len(model.records))
+
+
 class Messages(unittest.TestCase):
     """What messages are, and why bytes are none."""
 
@@ -255,6 +285,26 @@ class Messages(unittest.TestCase):
             head = b"POST /sessions HTTP/1.1\nContent-Length: %d\n\n" % len(body)
             with self.subTest(member):
                 self.assertEqual(self.found(head + body), [wanted])
+
+    def test_bookings(self):
+        none, seven = [], [7]
+        for value, named in (
+                (b"7", seven), (b"0", [0]), (b"18446744073709551615", [2**64 - 1]), (b'"7","booking":7', seven), (b"18446744073709551616", None),
+                (b"1.0", None), (b"1e3", None), (b"-1", None), (b'"7"', None), (b"null", None), (b"[7]", None), (b'7,"booking":null', None)):
+            for body, path, kind, front in (
+                    (b'{"step":1,"response":0,"booking":%s}' % value, b"answers", "answer", [3, 1, 0]), (b'{"booking":%s}' % value, b"close", "close", [3])):
+                with self.subTest(body):
+                    self.assertEqual(self.posted(path, body), ["bad-body" if named is None else (kind, front + named)])
+        for body, answer_of, close_of in (
+                (b"", "bad-json", none), (b"{", "bad-json", none), (b'{"booking":8', "bad-json", none), (b"\xff", "bad-json", none), (b"[8]", "bad-body", none),
+                (b"8", "bad-body", none), (b"null", "bad-body", none), (b"{}", "bad-body", none), (b'{"Booking":8}', "bad-body", none),
+                (b'{"step":1,"response":0}', ("answer", [3, 1, 0]), none), (b'{"step":1,"response":0,"booking":8}', ("answer", [3, 1, 0, 8]), [8])):
+            with self.subTest(body):
+                self.assertEqual(self.posted(b"answers", body), [answer_of])
+                self.assertEqual(self.posted(b"close", body), [("close", [3, *close_of])])
+
+    def posted(self, path, body):
+        return self.found(b"POST /sessions/3/%s HTTP/1.1\nContent-Length: %d\n\n%s" % (path, len(body), body))
 
     def test_tokens(self):
         look = b"GET /sessions/7 HTTP/1.1\n%s\n"
@@ -345,6 +395,18 @@ class Connections(Folder):
     def test_what_is_right(self):
         self.in_order(b"".join(ANSWERED))
         self.in_any_order(b"".join(ANSWERED))
+
+    def test_what_is_right_and_wrong_of_a_booking(self):
+        """Another booking is refused, and its own is not: whoever claims it otherwise is found, in order and beside other callers."""
+        asked = b"".join([begin(70), answer(0, 0, 2, 71), answer(0, 0, 2, 70), close(0, 71), close(0, 70), close(0, 71), answer(0, 0, 1, 71)])
+        other, closed = responded("409 Conflict", '{"error":"other-booking"}'), responded("409 Conflict", '{"error":"is-closed","value":"closed"}')
+        right = [ANSWERED[0], other, *ANSWERED[1:2], other, ANSWERED[3], other, other]
+        for judge in (self.in_order, self.in_any_order):
+            judge(b"".join(right), asked)
+            for place, wrong in ((1, ANSWERED[1]), (2, other), (3, ANSWERED[3]), (4, other), (5, closed), (6, closed), (6, ANSWERED[2]),
+                                 (1, other.replace(b"}", b',"value":0}').replace(b"25", b"35"))):
+                with self.subTest(place=place, wrong=wrong, judge=judge.__name__), self.assertRaises(reply_model.Surprise):
+                    judge(b"".join(right[:place] + [wrong] + right[place + 1:]), asked)
 
     def test_what_is_wrong(self):
         whole = b"".join(ANSWERED)

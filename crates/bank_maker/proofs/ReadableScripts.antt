@@ -81,8 +81,8 @@ acts_within n =
 -- its numbers are small
 abbrev IsSmall : Request → Type 0
 IsSmall (Begin booking) = booking < 1000
-IsSmall (Answer session step response) = (session < 1000) × (step < 100) × (response < 10)
-IsSmall (Close session) = session < 1000
+IsSmall (Answer session step response None) = (session < 1000) × (step < 100) × (response < 10)
+IsSmall (Close session None) = session < 1000
 IsSmall request = ⊥
 
 small_at : (n state : ℕ) (t : Act) → n ≤ 200 → IsAct n t → IsSmall (request_at state t)
@@ -99,8 +99,10 @@ requests_small n state (t ∷ ts) few within =
 
 small_in_range : (r : Request) → IsSmall r → IsInRange r
 small_in_range (Begin booking) lt = omega (arith, lt)
-small_in_range (Answer session step response) h = (omega (arith, h.0), omega (arith, h.1), omega (arith, h.2))
-small_in_range (Close session) lt = omega (arith, lt)
+small_in_range (Answer session step response None) h = (omega (arith, h.0), omega (arith, h.1), omega (arith, h.2), tt)
+small_in_range (Answer session step response (Some booking)) h = absurd h
+small_in_range (Close session None) lt = (omega (arith, lt), tt)
+small_in_range (Close session (Some booking)) h = absurd h
 small_in_range (BeginWithout booking items) h = absurd h
 small_in_range (Look session) h = absurd h
 small_in_range Exposure h = absurd h
@@ -112,7 +114,7 @@ three n lt = length-decimal-le 3 n (omega arith) (omega (arith, lt)) (omega (ari
 -- a line and its line feed have at most 20 bytes
 short_line : (r : Request) → IsSmall r → length (request_line r) ≤ 19
 short_line (Begin booking) lt = omega (arith, three booking lt)
-short_line (Answer session step response) h =
+short_line (Answer session step response None) h =
     omega (
       arith,
       three session h.0,
@@ -121,7 +123,9 @@ short_line (Answer session step response) h =
       length-append (decimal session) (32 ∷ (decimal step ++ 32 ∷ decimal response)),
       length-append (decimal step) (32 ∷ decimal response),
     )
-short_line (Close session) lt = omega (arith, three session lt)
+short_line (Answer session step response (Some booking)) h = absurd h
+short_line (Close session None) lt = omega (arith, three session lt)
+short_line (Close session (Some booking)) h = absurd h
 short_line (BeginWithout booking items) h = absurd h
 short_line (Look session) h = absurd h
 short_line Exposure h = absurd h

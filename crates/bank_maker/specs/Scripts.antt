@@ -36,12 +36,12 @@ unfoldable pub acts : ℕ → List Act
 acts sessions =
     flat_map (λ g. group_acts sessions (10 * g)) (range_with_len 0 ((sessions + 9) / 10))
 
--- what is asked at an act: session s has the booking s + 1, and an answer takes the next draw for
--- its response
+-- what is asked at an act: session s has the booking s + 1, an answer takes the next draw for its
+-- response, and no answer and no closing names a booking
 abbrev pub request_at : ℕ → Act → Request
 request_at state (Begins s) = Begin (s + 1)
-request_at state (Answers s k) = Answer s k (upper_bits (next_state state) % 2)
-request_at state (Closes s) = Close s
+request_at state (Answers s k) = Answer s k (upper_bits (next_state state) % 2) None
+request_at state (Closes s) = Close s None
 
 -- the state after an act
 abbrev pub state_behind : ℕ → Act → ℕ

@@ -1,6 +1,6 @@
 //! What the definitions mean: functions that do nothing, and whose clauses are laws.
 
-ghost use Rattle.std.specs.Prelude.{◌≡◌, ℕ, ◌≤◌, List, [], ◌∷◌, length};
+ghost use Rattle.std.specs.Prelude.{◌≡◌, ℕ, ◌≤◌, List, [], ◌∷◌, length, None};
 ghost use Rattle.history_model.specs.declared.request.Request.TheVariants.{Begin, Answer, Close};
 ghost use Rattle.bank_reader.specs.Grammar.{IsBankText};
 ghost use Rattle.replay_cli.specs.Scripts.{IsScript};
@@ -23,9 +23,10 @@ pub fn drill_of_seven()
     ensures last_item { drawn 7 119 ≡ record { peak = 5; height = 828; quantity = 81 } }
     ensures base { base_quantity (items 7) ≡ 1357 }
     ensures script { requests_from (state_after 7 draws_of_items) (acts 1)
-        ≡ Begin 1 ∷ Answer 0 0 1 ∷ Answer 0 1 0 ∷ Answer 0 2 1 ∷ Answer 0 3 0 ∷ Answer 0 4 0
-        ∷ Answer 0 5 0
-        ∷ Answer 0 6 1 ∷ Answer 0 7 1 ∷ Answer 0 8 0 ∷ Answer 0 9 0 ∷ Close 0 ∷ [] }
+        ≡ Begin 1 ∷ Answer 0 0 1 None ∷ Answer 0 1 0 None ∷ Answer 0 2 1 None
+        ∷ Answer 0 3 0 None ∷ Answer 0 4 0 None ∷ Answer 0 5 0 None
+        ∷ Answer 0 6 1 None ∷ Answer 0 7 1 None ∷ Answer 0 8 0 None
+        ∷ Answer 0 9 0 None ∷ Close 0 None ∷ [] }
 {}
 
 /// The script of a drill is a script of its requests, and is short enough to be read.

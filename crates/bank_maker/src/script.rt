@@ -24,9 +24,13 @@ fn request_at(draws: &mut Draws, act: Act) -> Request
                 session,
                 step,
                 response,
+                booking: None,
             }
         }
-        Act::Closes(session) => Request::Close(session),
+        Act::Closes(session) => Request::Close {
+            session,
+            booking: None,
+        },
     }
 }
 

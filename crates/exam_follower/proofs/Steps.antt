@@ -7,7 +7,7 @@ use Rattle.exam_edge.specs.Images.{AllImages, AtEachMoment, latest}
 use Rattle.exam_edge.specs.Lent.{IsLent}
 use Rattle.history_model.specs.declared.entry.Entry.{Entry}
 use Rattle.history_model.specs.declared.refusal.Refusal.{Refusal}
-use Rattle.history_model.specs.declared.refusal.Refusal.TheVariants.{NoSession, WrongStep, Other, BadResponse, IsClosed, Stale, OtherList, NoItem, SessionsFull, NoForm, NoneFound, JournalFull, Disk, Memory}
+use Rattle.history_model.specs.declared.refusal.Refusal.TheVariants.{NoSession, OtherBooking, WrongStep, Other, BadResponse, IsClosed, Stale, OtherList, NoItem, SessionsFull, NoForm, NoneFound, JournalFull, Disk, Memory}
 use Rattle.history_model.specs.Judging.{Record, entries_of}
 use Rattle.exam_records.specs.Shape.{IsRecord}
 use Rattle.exam_records.specs.Spelling.{payload_of}
@@ -210,6 +210,7 @@ unmended_beside old new Memory why = (beside_none old.marks new.marks (ap (λ (o
 unmended_beside old new Disk why = (beside_fault old.marks new.marks why.0 why.2.mark, why.2.doubt ∙ sym why.1)
 unmended_beside old new (JournalFull size) why = absurd why
 unmended_beside old new (NoSession count) why = absurd why
+unmended_beside old new OtherBooking why = absurd why
 unmended_beside old new (WrongStep step) why = absurd why
 unmended_beside old new (Other response) why = absurd why
 unmended_beside old new (BadResponse number) why = absurd why
@@ -232,6 +233,7 @@ rose_unmended old new Memory why other = absurd (other refl)
 rose_unmended old new Disk why other = why.2.rose
 rose_unmended old new (JournalFull size) why other = absurd why
 rose_unmended old new (NoSession count) why other = absurd why
+rose_unmended old new OtherBooking why other = absurd why
 rose_unmended old new (WrongStep step) why other = absurd why
 rose_unmended old new (Other response) why other = absurd why
 rose_unmended old new (BadResponse number) why other = absurd why

@@ -6,7 +6,7 @@ use Rattle.bank_tables.specs.Tables.{Tables}
 use Rattle.form_model.specs.Plan.{Plan}
 use Rattle.history_model.specs.declared.entry.Entry.{Entry}
 use Rattle.history_model.specs.declared.refusal.Refusal.{Refusal}
-use Rattle.history_model.specs.declared.refusal.Refusal.TheVariants.{NoSession, WrongStep, Other, BadResponse, IsClosed, Stale, OtherList, NoItem, SessionsFull, NoForm, NoneFound, JournalFull, Disk, Memory}
+use Rattle.history_model.specs.declared.refusal.Refusal.TheVariants.{NoSession, OtherBooking, WrongStep, Other, BadResponse, IsClosed, Stale, OtherList, NoItem, SessionsFull, NoForm, NoneFound, JournalFull, Disk, Memory}
 use Rattle.history_model.specs.Legality.{Legal}
 use Rattle.turn_lock.proofs.Lists.{tail_is}
 use Rattle.exam_office.specs.declared.mark.Mark.{Mark}
@@ -62,6 +62,7 @@ module _ {D : Type 0} (old new : Running D) where
   unmended_on Disk doubt h = (h.0, subst (λ d. IsDoubtOf old.marks d) h.1 doubt, h.2.mark)
   unmended_on (JournalFull size) doubt h = absurd h
   unmended_on (NoSession count) doubt h = absurd h
+  unmended_on OtherBooking doubt h = absurd h
   unmended_on (WrongStep k) doubt h = absurd h
   unmended_on (Other k) doubt h = absurd h
   unmended_on (BadResponse k) doubt h = absurd h
@@ -78,6 +79,7 @@ module _ {D : Type 0} (old new : Running D) where
   halted_on marks e Disk h = h.mark
   halted_on marks e (JournalFull size) h = (h.0.marks_are, h.1)
   halted_on marks e (NoSession count) h = absurd h
+  halted_on marks e OtherBooking h = absurd h
   halted_on marks e (WrongStep k) h = absurd h
   halted_on marks e (Other k) h = absurd h
   halted_on marks e (BadResponse k) h = absurd h
@@ -167,6 +169,7 @@ module _ (b : Tables) (plan : Plan) (finds : List Entry → Finding → Type 0) 
   }
   by_doubt (JournalFull size) h = absurd h
   by_doubt (NoSession count) h = absurd h
+  by_doubt OtherBooking h = absurd h
   by_doubt (WrongStep k) h = absurd h
   by_doubt (Other k) h = absurd h
   by_doubt (BadResponse k) h = absurd h
@@ -208,6 +211,7 @@ module _ (b : Tables) (plan : Plan) (finds : List Entry → Finding → Type 0) 
           (inr (e, subst (λ l. finds (history l) (add e)) (sym h.0) says));
     }
     by_failure e (NoSession count) says h = absurd h
+    by_failure e OtherBooking says h = absurd h
     by_failure e (WrongStep k) says h = absurd h
     by_failure e (Other k) says h = absurd h
     by_failure e (BadResponse k) says h = absurd h

@@ -19,7 +19,7 @@ use Rattle.history_model.specs.declared.entry.Entry.TheVariants.{SetAside, Serve
 use Rattle.history_model.specs.declared.place.Place.{Place}
 use Rattle.history_model.specs.declared.place.Place.TheVariants.{Pending}
 use Rattle.history_model.specs.declared.refusal.Refusal.{Refusal}
-use Rattle.history_model.specs.declared.refusal.Refusal.TheVariants.{NoSession, WrongStep, Other, BadResponse, IsClosed, Stale, OtherList, NoItem, SessionsFull, NoForm, NoneFound, JournalFull, Disk, Memory}
+use Rattle.history_model.specs.declared.refusal.Refusal.TheVariants.{NoSession, OtherBooking, WrongStep, Other, BadResponse, IsClosed, Stale, OtherList, NoItem, SessionsFull, NoForm, NoneFound, JournalFull, Disk, Memory}
 use Rattle.history_model.specs.Entries.{Serving, servings, step_answers, seat_of}
 use Rattle.history_model.specs.Laws.{raised, seat_place}
 use Rattle.history_model.specs.Legality.{Legal, LegalRun}
@@ -249,6 +249,7 @@ module _ {D : Type 0} (old new : Running D) (a : Assembly) (same : IsSameOffice 
   fails_if : (r : Refusal) (T : List Mark) → ((at : Place) (aside : Bool) → r ≡ Stale at aside → ⊥) → finds (history new.marks) (Rattle.exam_office.specs.Calls.refuse r) → ⊥
   fails_if (Stale at aside) T never says = never at aside refl
   fails_if (NoSession count) T never says = says
+  fails_if OtherBooking T never says = says
   fails_if (WrongStep k) T never says = says
   fails_if (Other k) T never says = says
   fails_if (BadResponse k) T never says = says

@@ -17,7 +17,7 @@ use Rattle.history_model.specs.declared.place.Place.{Place}
 use Rattle.history_model.specs.declared.place.Place.TheVariants.{Pending}
 use Rattle.history_model.specs.declared.place.Place.TheVariants as place_is
 use Rattle.history_model.specs.declared.refusal.Refusal.{Refusal}
-use Rattle.history_model.specs.declared.refusal.Refusal.TheVariants.{NoSession, WrongStep, Other, BadResponse, IsClosed, Stale, OtherList, NoItem, SessionsFull, NoForm, NoneFound, JournalFull, Disk, Memory}
+use Rattle.history_model.specs.declared.refusal.Refusal.TheVariants.{NoSession, OtherBooking, WrongStep, Other, BadResponse, IsClosed, Stale, OtherList, NoItem, SessionsFull, NoForm, NoneFound, JournalFull, Disk, Memory}
 use Rattle.history_model.specs.declared.request.Exposure.{Exposure as Counts}
 use Rattle.history_model.specs.declared.request.Request.{Request}
 use Rattle.history_model.specs.declared.request.Request.TheVariants.{Begin, BeginWithout, Answer, Close, Look, Exposure}
@@ -42,12 +42,13 @@ use Rattle.exam_office.specs.Noting.{IsDoubtOf}
 use Rattle.exam_office.specs.Running.{Running}
 use Rattle.exam_office.specs.Writing.{IsSameOffice}
 use Rattle.exam_office.proofs.Advancing.{closed_there}
-use Rattle.exam_hall.specs.Parts.{owns, NoFault, IsFirst, LacksFirst, IsUnbooked, IsNotBegunBy, Fails}
+use Rattle.exam_hall.specs.Parts.{owns, NoFault, IsFirst, IsOfNamed, LacksFirst, IsUnbooked, IsNotBegunBy, Fails}
 use Rattle.exam_hall.specs.Leading.{Leads}
 use Rattle.exam_hall.specs.Turns.{Adds, Led}
 use Rattle.exam_hall.proofs.Calls.{CameTo, to_refusal, to_nothing, to_entry, to_failure, Addition, addition, calls_on, settled_by, settles, none_faulty, own_faultless, both_faultless, cancel}
 use Rattle.exam_hall.proofs.Listed.{listed_new, listed_there}
 use Rattle.exam_hall.proofs.Moved.{owns_append}
+use Rattle.exam_hall.proofs.Named.{named_answer, named_closing, named_later}
 
 -- ---- a recorded response is in the history
 later_one : (x e : Entry) (H : List Entry) → Contains H e → Contains (x ∷ H) e
@@ -88,12 +89,12 @@ module _ {D : Type 0} (old new : Running D) (same : IsSameOffice old new) (frame
   there : (s : ℕ) (at : Place) → place new.plan (history new.marks) s ≡ Some at → place old.plan (history new.marks) s ≡ Some at
   there s at e = subst (λ (p : Plan). place p (history new.marks) s ≡ Some at) same.plan e
 
-  answer_leads : (s step response : ℕ) (result : Result Place Refusal) (T : List Mark) → LegalRun old.bank old.plan (history new.marks)
-      → CameTo old.bank old.plan (FindsAnswer old.bank old.plan s step response) new.marks T (refused_with result)
-      → IfOk result (λ at. place new.plan (history new.marks) s ≡ Some at) → Leads old.bank old.plan (Answer s step response) new.marks T (reply_of s false result)
-  answer_leads s step response (Ok at) T run (to_nothing says none whole) stands = record {
+  answer_leads : (s step response : ℕ) (booking : Option ℕ) (result : Result Place Refusal) (T : List Mark) → LegalRun old.bank old.plan (history new.marks)
+      → CameTo old.bank old.plan (FindsAnswer old.bank old.plan s step response booking) new.marks T (refused_with result)
+      → IfOk result (λ at. place new.plan (history new.marks) s ≡ Some at) → Leads old.bank old.plan (Answer s step response booking) new.marks T (reply_of s false result)
+  answer_leads s step response booking (Ok at) T run (to_nothing says none whole) stands = record {
     is_at = record {
-      session_is = refl;
+      session_is = (refl, named_answer old.bank old.plan (history new.marks) s step response booking says.0);
       stands = there s at stands;
       answered = recorded_there old.bank old.plan (history new.marks) s step response run says.1;
       fresh_is = sym (ap (λ l. list_any starts l) none);
@@ -103,9 +104,9 @@ module _ {D : Type 0} (old new : Running D) (same : IsSameOffice old new) (frame
     one = inl none;
     ends = tt;
   }
-  answer_leads s step response (Ok at) T run (to_entry H e says grown own whole) stands = record {
+  answer_leads s step response booking (Ok at) T run (to_entry H e says grown own whole) stands = record {
     is_at = record {
-      session_is = refl;
+      session_is = (refl, subst (λ l. IsOfNamed l booking s) (sym grown) (named_later H (e ∷ []) booking s (named_answer old.bank old.plan H s step response booking says.0)));
       stands = there s at stands;
       answered = subst (λ l. Contains l (Answered s step response)) (sym grown) (subst (λ x. Contains (H ++ e ∷ []) x) says.2 (Contains-push H e));
       fresh_is = sym (ap (λ l. list_any starts l) (own ∙ ap (λ x. x ∷ []) says.2));
@@ -115,29 +116,29 @@ module _ {D : Type 0} (old new : Running D) (same : IsSameOffice old new) (frame
     one = inr (e, own, says.2);
     ends = tt;
   }
-  answer_leads s step response (Err q) T run (to_refusal r says none whole) stands = inl (record { test = says; none = none; no_fault = whole })
-  answer_leads s step response (Err q) T run (to_failure r fails none why) stands =
-      inr (inr (fails (IsFirst (Answer s step response)) (λ H e says. (says.2, says.3)), (none, ⊎_elim (λ d. inl d) (λ t. inr (t.0, t.1.2, t.1.3)) why)))
+  answer_leads s step response booking (Err q) T run (to_refusal r says none whole) stands = inl (record { test = says; none = none; no_fault = whole })
+  answer_leads s step response booking (Err q) T run (to_failure r fails none why) stands =
+      inr (inr (fails (IsFirst (Answer s step response booking)) (λ H e says. (says.2, says.3)), (none, ⊎_elim (λ d. inl d) (λ t. inr (t.0, t.1.2, t.1.3)) why)))
 
-  answer_led : (s step response : ℕ) (result : Result Place Refusal) → IsDoubtOf old.marks old.doubt → LegalRun old.bank old.plan (history new.marks)
-      → Calls (FindsAnswer old.bank old.plan s step response) old new (refused_with result)
-      → IfOk result (λ at. place new.plan (history new.marks) s ≡ Some at) → Led (Answer s step response) old new (reply_of s false result)
-  answer_led s step response result doubt run calls stands =
-      let finds = FindsAnswer old.bank old.plan s step response in
+  answer_led : (s step response : ℕ) (booking : Option ℕ) (result : Result Place Refusal) → IsDoubtOf old.marks old.doubt → LegalRun old.bank old.plan (history new.marks)
+      → Calls (FindsAnswer old.bank old.plan s step response booking) old new (refused_with result)
+      → IfOk result (λ at. place new.plan (history new.marks) s ≡ Some at) → Led (Answer s step response booking) old new (reply_of s false result)
+  answer_led s step response booking result doubt run calls stands =
+      let finds = FindsAnswer old.bank old.plan s step response booking in
       let a = addition old.bank old.plan finds old.marks new.marks (refused_with result) (calls_on old new finds (refused_with result) doubt calls) in
-      record { adds = adds finds (refused_with result) a; leads = answer_leads s step response result a.added run a.came stands }
+      record { adds = adds finds (refused_with result) a; leads = answer_leads s step response booking result a.added run a.came stands }
 
-  closing_leads : (s : ℕ) (result : Result Place Refusal) (T : List Mark)
-      → CameTo old.bank old.plan (FindsClosing old.bank old.plan s) new.marks T (refused_with result)
-      → IfOk result (λ at. place new.plan (history new.marks) s ≡ Some at) → Leads old.bank old.plan (Close s) new.marks T (reply_of s false result)
-  closing_leads s (Ok at) T (to_nothing says none whole) stands = absurd says
-  closing_leads s (Ok at) T (to_entry H e says grown own whole) stands =
+  closing_leads : (s : ℕ) (booking : Option ℕ) (result : Result Place Refusal) (T : List Mark)
+      → CameTo old.bank old.plan (FindsClosing old.bank old.plan s booking) new.marks T (refused_with result)
+      → IfOk result (λ at. place new.plan (history new.marks) s ≡ Some at) → Leads old.bank old.plan (Close s booking) new.marks T (reply_of s false result)
+  closing_leads s booking (Ok at) T (to_nothing says none whole) stands = absurd says
+  closing_leads s booking (Ok at) T (to_entry H e says grown own whole) stands =
       let legal = subst (λ x. Legal old.bank old.plan H x) says.1 says.2 in
       let ended : place old.plan (history new.marks) s ≡ Some place_is.Closed =
       subst (λ l. place old.plan l s ≡ Some place_is.Closed) (sym (grown ∙ ap (λ x. H ++ x ∷ []) says.1)) (closed_there old.plan H s legal.at legal.stands) in
       record {
         is_at = record {
-          session_is = refl;
+          session_is = (refl, subst (λ l. IsOfNamed l booking s) (sym grown) (named_later H (e ∷ []) booking s (named_closing old.bank old.plan H s booking says.0)));
           stands = there s at stands;
           answered = tt;
           fresh_is = sym (ap (λ l. list_any starts l) (own ∙ ap (λ x. x ∷ []) says.1));
@@ -150,15 +151,15 @@ module _ {D : Type 0} (old new : Running D) (same : IsSameOffice old new) (frame
     where
       never : (k : ℕ) → ◌≡◌ {A = Option Place} (Some place_is.Closed) (Some (Pending k)) → ⊥
       never k e = cc
-  closing_leads s (Err q) T (to_refusal r says none whole) stands = inl (record { test = says; none = none; no_fault = whole })
-  closing_leads s (Err q) T (to_failure r fails none why) stands = inr (inr (fails (IsFirst (Close s)) (λ H e says. (says.1, says.2)), (none, ⊎_elim (λ d. inl d) (λ t. inr (t.0, t.1.1, t.1.2)) why)))
+  closing_leads s booking (Err q) T (to_refusal r says none whole) stands = inl (record { test = says; none = none; no_fault = whole })
+  closing_leads s booking (Err q) T (to_failure r fails none why) stands = inr (inr (fails (IsFirst (Close s booking)) (λ H e says. (says.1, says.2)), (none, ⊎_elim (λ d. inl d) (λ t. inr (t.0, t.1.1, t.1.2)) why)))
 
-  closing_led : (s : ℕ) (result : Result Place Refusal) → IsDoubtOf old.marks old.doubt → Calls (FindsClosing old.bank old.plan s) old new (refused_with result)
-      → IfOk result (λ at. place new.plan (history new.marks) s ≡ Some at) → Led (Close s) old new (reply_of s false result)
-  closing_led s result doubt calls stands =
-      let finds = FindsClosing old.bank old.plan s in
+  closing_led : (s : ℕ) (booking : Option ℕ) (result : Result Place Refusal) → IsDoubtOf old.marks old.doubt → Calls (FindsClosing old.bank old.plan s booking) old new (refused_with result)
+      → IfOk result (λ at. place new.plan (history new.marks) s ≡ Some at) → Led (Close s booking) old new (reply_of s false result)
+  closing_led s booking result doubt calls stands =
+      let finds = FindsClosing old.bank old.plan s booking in
       let a = addition old.bank old.plan finds old.marks new.marks (refused_with result) (calls_on old new finds (refused_with result) doubt calls) in
-      record { adds = adds finds (refused_with result) a; leads = closing_leads s result a.added a.came stands }
+      record { adds = adds finds (refused_with result) a; leads = closing_leads s booking result a.added a.came stands }
 
   start_starts : (booking : ℕ) (e : Entry) → IsStartFor booking e → starts e ≡ true
   start_starts booking e h = ap starts h.is
@@ -292,6 +293,7 @@ module _ {D : Type 0} (old new : Running D) (same : IsSameOffice old new) (frame
       ⊎ (Fails old.bank old.plan (IsFirst (BeginWithout booking items)) new.marks T r × LacksFirst old.bank old.plan new.marks (BeginWithout booking items) (owns T))
   no_witness booking items Memory T u lacks none whole = inr (whole, (none, inr u))
   no_witness booking items (NoSession count) T u lacks none whole = inl (lacking booking items (NoSession count) T u lacks none whole)
+  no_witness booking items OtherBooking T u lacks none whole = inl (lacking booking items OtherBooking T u lacks none whole)
   no_witness booking items (WrongStep k) T u lacks none whole = inl (lacking booking items (WrongStep k) T u lacks none whole)
   no_witness booking items (Other k) T u lacks none whole = inl (lacking booking items (Other k) T u lacks none whole)
   no_witness booking items (BadResponse k) T u lacks none whole = inl (lacking booking items (BadResponse k) T u lacks none whole)
@@ -384,13 +386,13 @@ module _ {D : Type 0} (old new : Running D) (doubt : IsDoubtOf old.marks old.dou
   pub led_by : (q : Request) (witness : Result (List ℕ) Refusal) (answer : Reply) → IsLead q witness old new answer → Led q old new answer
   led_by (Begin booking) witness answer l = begun_led booking l.begun answer l.call l.session l.fresh l.reply_is
   led_by (BeginWithout booking items) witness answer l = begun_without booking items witness l.begun answer l.call l.session l.fresh l.reply_is
-  led_by (Answer s step response) witness answer l =
+  led_by (Answer s step response booking) witness answer l =
       let c = l.call in
-      subst (λ (r : Reply). Led (Answer s step response) old new r) (sym l.reply_is)
-      (answer_led old new c.same c.frame s step response l.found doubt (legal_before old new c.same run) c.call l.at)
-  led_by (Close s) witness answer l =
+      subst (λ (r : Reply). Led (Answer s step response booking) old new r) (sym l.reply_is)
+      (answer_led old new c.same c.frame s step response booking l.found doubt (legal_before old new c.same run) c.call l.at)
+  led_by (Close s booking) witness answer l =
       let c = l.call in
-      subst (λ (r : Reply). Led (Close s) old new r) (sym l.reply_is) (closing_led old new c.same c.frame s l.found doubt c.call l.at)
+      subst (λ (r : Reply). Led (Close s booking) old new r) (sym l.reply_is) (closing_led old new c.same c.frame s booking l.found doubt c.call l.at)
   led_by (Look s) witness answer l =
       let look = l.1 in
       subst (λ (n : Running D). Led (Look s) old n answer) (sym l.0) (subst (λ (r : Reply). Led (Look s) old old r) (sym look.reply_is) (look_led old s look.found look.at look.refused))

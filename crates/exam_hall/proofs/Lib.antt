@@ -4,6 +4,7 @@ pub mod Moved
 pub mod Owned
 pub mod Calls
 pub mod Listed
+pub mod Named
 pub mod Leading
 pub mod Commits
 pub mod Served

@@ -5,7 +5,7 @@ use Rattle.bank_tables.specs.Tables.{Tables}
 use Rattle.form_model.specs.Plan.{Plan}
 use Rattle.turn_lock.specs.Passes.{Known, TakesTurn}
 use Rattle.history_model.specs.declared.refusal.Refusal.{Refusal}
-use Rattle.history_model.specs.declared.refusal.Refusal.TheVariants.{NoSession, WrongStep, Other, BadResponse, IsClosed, Stale, OtherList, NoItem, SessionsFull, NoForm, NoneFound, JournalFull, Disk, Memory}
+use Rattle.history_model.specs.declared.refusal.Refusal.TheVariants.{NoSession, OtherBooking, WrongStep, Other, BadResponse, IsClosed, Stale, OtherList, NoItem, SessionsFull, NoForm, NoneFound, JournalFull, Disk, Memory}
 use Rattle.history_model.specs.Legality.{LegalRun}
 use Rattle.exam_handler.specs.Handling.{IsProbeRefusal}
 use Rattle.exam_handler.specs.declared.health.Health.{Health}
@@ -60,6 +60,7 @@ module _ {D : Type 0} (old new : Running D) where
       }
   not_found (JournalFull size) doubt is = absurd is.finds
   not_found (NoSession count) doubt is = absurd is.finds
+  not_found OtherBooking doubt is = absurd is.finds
   not_found (WrongStep k) doubt is = absurd is.finds
   not_found (Other k) doubt is = absurd is.finds
   not_found (BadResponse k) doubt is = absurd is.finds
@@ -115,6 +116,7 @@ why_not plan S T Disk is = tt
 why_not plan S T Memory is = tt
 why_not plan S T (JournalFull size) is = absurd is
 why_not plan S T (NoSession count) is = absurd is
+why_not plan S T OtherBooking is = absurd is
 why_not plan S T (WrongStep k) is = absurd is
 why_not plan S T (Other k) is = absurd is
 why_not plan S T (BadResponse k) is = absurd is

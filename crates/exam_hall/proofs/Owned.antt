@@ -93,8 +93,8 @@ module _ (b : Tables) (plan : Plan) (base : List ℕ) where
   first_good : (q : Request) (H : List Entry) (e : Entry) → IsFirst q e → IsFirm b plan H e × IsGood b plan base H e
   first_good (Begin booking) H e h = subst (λ x. IsFirm b plan H x × IsGood b plan base H x) (sym h.is) (tt, tt)
   first_good (BeginWithout booking items) H e h = subst (λ x. IsFirm b plan H x × IsGood b plan base H x) (sym h.1.is) (tt, tt)
-  first_good (Answer session step response) H e h = subst (λ x. IsFirm b plan H x × IsGood b plan base H x) (sym h) (tt, tt)
-  first_good (Close session) H e h = subst (λ x. IsFirm b plan H x × IsGood b plan base H x) (sym h) (tt, tt)
+  first_good (Answer session step response booking) H e h = subst (λ x. IsFirm b plan H x × IsGood b plan base H x) (sym h) (tt, tt)
+  first_good (Close session booking) H e h = subst (λ x. IsFirm b plan H x × IsGood b plan base H x) (sym h) (tt, tt)
   first_good (Look session) H e h = absurd h
   first_good Exposure H e h = absurd h
 

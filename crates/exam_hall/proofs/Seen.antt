@@ -13,7 +13,7 @@ use Rattle.history_model.specs.declared.entry.Entry.TheVariants.{Started, SetAsi
 use Rattle.history_model.specs.declared.place.Place.{Place}
 use Rattle.history_model.specs.declared.place.Place.TheVariants.{Pending}
 use Rattle.history_model.specs.declared.refusal.Refusal.{Refusal}
-use Rattle.history_model.specs.declared.refusal.Refusal.TheVariants.{NoSession, WrongStep, Other, BadResponse, IsClosed, Stale, OtherList, NoItem, SessionsFull, NoForm, NoneFound, JournalFull, Disk, Memory}
+use Rattle.history_model.specs.declared.refusal.Refusal.TheVariants.{NoSession, OtherBooking, WrongStep, Other, BadResponse, IsClosed, Stale, OtherList, NoItem, SessionsFull, NoForm, NoneFound, JournalFull, Disk, Memory}
 use Rattle.history_model.specs.declared.request.Request.{Request}
 use Rattle.history_model.specs.declared.request.Request.TheVariants.{Begin, BeginWithout, Answer, Close, Look, Exposure}
 use Rattle.history_model.specs.declared.request.Reply.{Reply}
@@ -44,6 +44,7 @@ use Rattle.exam_hall.proofs.Went.{went_nowhere, taken_both}
 use Rattle.exam_hall.proofs.Calls.{none_faulty, both_faultless}
 use Rattle.exam_hall.proofs.Listed.{listed_later}
 use Rattle.exam_hall.proofs.Moved.{history_append, owns_append}
+use Rattle.exam_hall.proofs.Named.{named_later}
 use Rattle.exam_hall.proofs.Owned.{firsts_good, both_good}
 use Rattle.exam_hall.proofs.Served.{here, went_here, legal_here, made_here, fails_more}
 
@@ -66,8 +67,8 @@ one_weaker P Q w xs h = ⊎_elim (λ e. inl e) (λ t. inr (t.0, t.1, w t.0 t.2))
 pub lacks_all : (b : Tables) (plan : Plan) (S : List Mark) (q : Request) (E : List Entry) → LacksFirst b plan S q E → E ≡ []
 lacks_all b plan S (Begin booking) E h = h.0
 lacks_all b plan S (BeginWithout booking items) E h = h.0
-lacks_all b plan S (Answer session step response) E h = h.0
-lacks_all b plan S (Close session) E h = h.0
+lacks_all b plan S (Answer session step response booking) E h = h.0
+lacks_all b plan S (Close session booking) E h = h.0
 lacks_all b plan S (Look session) E h = absurd h
 lacks_all b plan S Exposure E h = h
 
@@ -78,16 +79,16 @@ part_first H q E one = record { first = E; aside = []; serving = []; is = sym (a
 answered_later : (H G : List Entry) (q : Request) → IsAnswered H q → IsAnswered (H ++ G) q
 answered_later H G (Begin booking) h = tt
 answered_later H G (BeginWithout booking items) h = tt
-answered_later H G (Answer session step response) h = Contains-append_left H G (Answered session step response) h
-answered_later H G (Close session) h = tt
+answered_later H G (Answer session step response booking) h = Contains-append_left H G (Answered session step response) h
+answered_later H G (Close session booking) h = tt
 answered_later H G (Look session) h = tt
 answered_later H G Exposure h = tt
 
 session_later : (H G : List Entry) (q : Request) (s : ℕ) → IsSessionOf H q s → IsSessionOf (H ++ G) q s
 session_later H G (Begin booking) s h = holder_stays H G booking s h
 session_later H G (BeginWithout booking items) s h = (holder_stays H G booking s h.0, listed_later H G s items h.1)
-session_later H G (Answer session step response) s h = h
-session_later H G (Close session) s h = h
+session_later H G (Answer session step response booking) s h = (h.0, named_later H G booking s h.1)
+session_later H G (Close session booking) s h = (h.0, named_later H G booking s h.1)
 session_later H G (Look session) s h = h
 session_later H G Exposure s h = h
 
@@ -95,16 +96,16 @@ session_later H G Exposure s h = h
 served_for : (H : List Entry) (q : Request) (s k : ℕ) → EndsSession q (Pending k) → IsSessionOf H q s → IsAnswered H q → is_started H s ≡ true → IsServedFor H q s
 served_for H (Begin booking) s k ends h a i = (h, a, i)
 served_for H (BeginWithout booking items) s k ends h a i = (h, a, i)
-served_for H (Answer session step response) s k ends h a i = (h, a, i)
-served_for H (Close session) s k ends h a i = absurd (ends k refl)
+served_for H (Answer session step response booking) s k ends h a i = (h, a, i)
+served_for H (Close session booking) s k ends h a i = absurd (ends k refl)
 served_for H (Look session) s k ends h a i = (h, a, i)
 served_for H Exposure s k ends h a i = (h, a, i)
 
 no_closing : (q : Request) (k : ℕ) (E : List Entry) → EndsSession q (Pending k) → HasClosed q E
 no_closing (Begin booking) k E ends = tt
 no_closing (BeginWithout booking items) k E ends = tt
-no_closing (Answer session step response) k E ends = tt
-no_closing (Close session) k E ends = absurd (ends k refl)
+no_closing (Answer session step response booking) k E ends = tt
+no_closing (Close session booking) k E ends = absurd (ends k refl)
 no_closing (Look session) k E ends = tt
 no_closing Exposure k E ends = tt
 
@@ -294,6 +295,7 @@ module _ (h : HallKnown) (old mid new : Known Mark) (q : Request) (fresh : Bool)
 -- ---- what a reply may be
 fails_refusal : (b : Tables) (plan : Plan) (K : Entry → Type 0) (S T : List Mark) (r : Refusal) → Fails b plan K S T r → IsRefusal r
 fails_refusal b plan K S T (NoSession count) h = absurd h
+fails_refusal b plan K S T OtherBooking h = absurd h
 fails_refusal b plan K S T (WrongStep k) h = absurd h
 fails_refusal b plan K S T (Other k) h = absurd h
 fails_refusal b plan K S T (BadResponse k) h = absurd h
@@ -310,6 +312,7 @@ fails_refusal b plan K S T Memory h = tt
 
 lacks_refusal : (b : Tables) (plan : Plan) (items : Set) (r : Refusal) → LacksForm b plan items r → IsRefusal r
 lacks_refusal b plan items (NoSession count) h = elim h [ ]
+lacks_refusal b plan items OtherBooking h = elim h [ ]
 lacks_refusal b plan items (WrongStep k) h = elim h [ ]
 lacks_refusal b plan items (Other k) h = elim h [ ]
 lacks_refusal b plan items (BadResponse k) h = elim h [ ]

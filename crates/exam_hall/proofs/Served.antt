@@ -21,7 +21,7 @@ use Rattle.history_model.specs.declared.entry.Entry.{Entry}
 use Rattle.history_model.specs.declared.place.Place.{Place}
 use Rattle.history_model.specs.declared.place.Place.TheVariants.{Pending}
 use Rattle.history_model.specs.declared.refusal.Refusal.{Refusal}
-use Rattle.history_model.specs.declared.refusal.Refusal.TheVariants.{NoSession, WrongStep, Other, BadResponse, IsClosed, Stale, OtherList, NoItem, SessionsFull, NoForm, NoneFound, JournalFull, Disk, Memory}
+use Rattle.history_model.specs.declared.refusal.Refusal.TheVariants.{NoSession, OtherBooking, WrongStep, Other, BadResponse, IsClosed, Stale, OtherList, NoItem, SessionsFull, NoForm, NoneFound, JournalFull, Disk, Memory}
 use Rattle.history_model.specs.Legality.{LegalRun}
 use Rattle.history_model.specs.Places.{place}
 use Rattle.turn_lock.specs.Histories.{StartsWith, places}
@@ -142,6 +142,7 @@ rounds_nowhere h P p asked run = record {
 -- ---- up to two assemblies
 pub fails_more : (b : Tables) (plan : Plan) (K L : Entry → Type 0) → ((e : Entry) → K e → L e) → (S A T : List Mark) (r : Refusal) → NoFault A → Fails b plan K S T r → Fails b plan L S (A ++ T) r
 fails_more b plan K L w S A T (NoSession count) n h = absurd h
+fails_more b plan K L w S A T OtherBooking n h = absurd h
 fails_more b plan K L w S A T (WrongStep k) n h = absurd h
 fails_more b plan K L w S A T (Other k) n h = absurd h
 fails_more b plan K L w S A T (BadResponse k) n h = absurd h

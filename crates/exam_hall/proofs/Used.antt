@@ -242,8 +242,8 @@ twice_step h P Q old mid new round r q =
 
 -- ---- the request
 -- the first entry of an answer is the answer
-answer_only : (session step response : ℕ) (E : List Entry) (e : Entry) → AtMostOne (IsFirst (Answer session step response)) E → Contains E e → e ≡ Answered session step response
-answer_only session step response E e one c = only_one (IsFirst (Answer session step response)) E e one c
+answer_only : (session step response : ℕ) (booking : Option ℕ) (E : List Entry) (e : Entry) → AtMostOne (IsFirst (Answer session step response booking)) E → Contains E e → e ≡ Answered session step response
+answer_only session step response booking E e one c = only_one (IsFirst (Answer session step response booking)) E e one c
 
 answer_serves : (session step response s k : ℕ) (e : Entry) → e ≡ Answered session step response → IsServingAt s k e → ⊥
 answer_serves session step response s k e is serves = subst (IsServingAt s k) is serves
@@ -258,8 +258,8 @@ served_step s k j (Served session step item form proved nodes) h i = sym i ∙ h
 served_step s k j (Answered session step response) h i = absurd h
 served_step s k j (Closed session) h i = absurd h
 
-module _ (h : HallKnown) (old mid new : Known Mark) (session step response : ℕ) (fresh : Bool) (P : Problem) (warm : Option Multipliers)
-    (b : HasBegun h old mid (Answer session step response) (Waits fresh P warm)) (fs qs : List ℕ) (w : Went mid new fs qs) (of_step : AddsOwn (IsOfStep P.step) mid new)
+module _ (h : HallKnown) (old mid new : Known Mark) (session step response : ℕ) (booking : Option ℕ) (fresh : Bool) (P : Problem) (warm : Option Multipliers)
+    (b : HasBegun h old mid (Answer session step response booking) (Waits fresh P warm)) (fs qs : List ℕ) (w : Went mid new fs qs) (of_step : AddsOwn (IsOfStep P.step) mid new)
     (made : Assembly) (own : List ℕ) (ready : IsReady h old new own session step response made) where
   abbrev H : List Entry
   H = history mid.seen
@@ -268,7 +268,7 @@ module _ (h : HallKnown) (old mid new : Known Mark) (session step response : ℕ
   M = problem_of made.problem
 
   early_is : (e : Entry) → Contains (owns (taken mid.seen b.places)) e → e ≡ Answered session step response
-  early_is e c = answer_only session step response (owns (taken mid.seen b.places)) e b.begins.0.one c
+  early_is e c = answer_only session step response booking (owns (taken mid.seen b.places)) e b.begins.0.one c
 
   apart_first : (p : ℕ) (e : Entry) (n : ℕ) → Contains own p → slice_get mid.seen p ≡ Some (Own e n) → IsAside session e → ⊥
   apart_first p e n c at aside =
@@ -290,7 +290,7 @@ module _ (h : HallKnown) (old mid new : Known Mark) (session step response : ℕ
       ∙ sym (flag_of h.bank h.plan (F ++ A ∷ []) session (ready.next.step + 1) M ready.next.ahead.is_problem))
 
   session_is : P.session ≡ session
-  session_is = b.begins.0.is_at.session_is
+  session_is = b.begins.0.is_at.session_is.0
 
   -- an item of the next step is served: so the first turn found the problem that was prepared
   problem_is : P.step ≡ step + 1 → M ≡ problem_of P
@@ -347,8 +347,8 @@ module _ (h : HallKnown) (old mid new : Known Mark) (fresh : Bool) (P : Problem)
   uses_made : (made : Assembly) (q : Request) → HasBegun h old mid q (Waits fresh P warm) → KeepsFor P (Some made) kept → Uses h old new q made
   uses_made made (Begin booking) b keeps = tt
   uses_made made (BeginWithout booking items) b keeps = tt
-  uses_made made (Answer session step response) b keeps = λ own ready. served_ready h old mid new session step response fresh P warm b fs qs w of_step made own ready kept keeps uses
-  uses_made made (Close session) b keeps = tt
+  uses_made made (Answer session step response booking) b keeps = λ own ready. served_ready h old mid new session step response booking fresh P warm b fs qs w of_step made own ready kept keeps uses
+  uses_made made (Close session booking) b keeps = tt
   uses_made made (Look session) b keeps = tt
   uses_made made Exposure b keeps = tt
 
@@ -366,12 +366,12 @@ module _ (h : HallKnown) (old new : Known Mark) (answer : Reply) where
   done_made : (made : Assembly) (q : Request) → HasBegun h old new q (Done answer) → Uses h old new q made
   done_made made (Begin booking) b = tt
   done_made made (BeginWithout booking items) b = tt
-  done_made made (Answer session step response) b = λ own ready e there serves.
+  done_made made (Answer session step response booking) b = λ own ready e there serves.
       (let is = own_places old new (length new.seen ∷ []) b.places own b.went ready.own_is in
-      let one = done_one h (Answer session step response) new.seen (taken new.seen b.places) answer b.begins in
+      let one = done_one h (Answer session step response booking) new.seen (taken new.seen b.places) answer b.begins in
       absurd (answer_serves session step response session (step + 1) e
-      (answer_only session step response (owns (taken new.seen b.places)) e one (subst (λ ps. Contains (owns (taken new.seen ps)) e) is there)) serves))
-  done_made made (Close session) b = tt
+      (answer_only session step response booking (owns (taken new.seen b.places)) e one (subst (λ ps. Contains (owns (taken new.seen ps)) e) is there)) serves))
+  done_made made (Close session booking) b = tt
   done_made made (Look session) b = tt
   done_made made Exposure b = tt
 

@@ -39,7 +39,7 @@ pub record IsSought (seen : List NotedMark) (q : Request)
 
 -- a session that was closed doesn't wait for an item
 abbrev pub EndsSession : Request → Place → Type 0
-EndsSession (request.Close session) at = (step : ℕ) → at ≡ Pending step → ⊥
+EndsSession (request.Close session booking) at = (step : ℕ) → at ≡ Pending step → ⊥
 EndsSession q at = ⊤
 
 -- the request's first entry was added where it was not there yet; T are the marks that the turn

@@ -43,8 +43,8 @@ abbrev pub IsFirst : Request → Entry → Type 0
 IsFirst (Begin booking) e = IsStartFor booking e
 IsFirst (BeginWithout booking items) e =
     (witness : Result (List ℕ) Refusal) × IsStartWithout booking items witness e
-IsFirst (Answer session step response) e = e ≡ Answered session step response
-IsFirst (Close session) e = e ≡ Closed session
+IsFirst (Answer session step response booking) e = e ≡ Answered session step response
+IsFirst (Close session booking) e = e ≡ Closed session
 IsFirst (Look session) e = ⊥
 IsFirst Exposure e = ⊥
 
@@ -61,25 +61,31 @@ abbrev pub IsAnswer : ℕ → Entry → Type 0
 IsAnswer s (Answered session step response) = session ≡ s
 IsAnswer s e = ⊥
 
+-- the booking that is named, if one is, has this session
+abbrev pub IsOfNamed : List Entry → Option ℕ → ℕ → Type 0
+IsOfNamed H None s = ⊤
+IsOfNamed H (Some booking) s = holder H booking ≡ Some s
+
 -- the session of a request, after the history H: for a booking, the one that the booking has; for a
--- booking with a list, that one, and it was started with this list
+-- booking with a list, that one, and it was started with this list; for an answer or a closing, the
+-- one that it names, which is that of the booking that it names, if it names one
 abbrev pub IsSessionOf : List Entry → Request → ℕ → Type 0
 IsSessionOf H (Begin booking) s = holder H booking ≡ Some s
 IsSessionOf H (BeginWithout booking items) s =
     (holder H booking ≡ Some s) × IsTrue (has_list items (list_of H s))
-IsSessionOf H (Answer session step response) s = s ≡ session
-IsSessionOf H (Close session) s = s ≡ session
+IsSessionOf H (Answer session step response booking) s = (s ≡ session) × IsOfNamed H booking s
+IsSessionOf H (Close session booking) s = (s ≡ session) × IsOfNamed H booking s
 IsSessionOf H (Look session) s = s ≡ session
 IsSessionOf H Exposure s = ⊥
 
 -- the answer of the request is in the history
 abbrev pub IsAnswered : List Entry → Request → Type 0
-IsAnswered H (Answer session step response) = Contains H (Answered session step response)
+IsAnswered H (Answer session step response booking) = Contains H (Answered session step response)
 IsAnswered H q = ⊤
 
 -- the session that a request may serve: the history has it, and the request's answer
 abbrev pub IsServedFor : List Entry → Request → ℕ → Type 0
-IsServedFor H (Close session) s = ⊥
+IsServedFor H (Close session booking) s = ⊥
 IsServedFor H q s = IsSessionOf H q s × IsAnswered H q × IsTrue (is_started H s)
 
 -- E has the entries of the request: its first one, then a setting aside, then a serving; or a part

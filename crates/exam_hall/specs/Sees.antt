@@ -26,7 +26,7 @@ use Rattle.exam_hall.specs.Parts.{owns, NoFault, IsSessionOf, IsAnswered, IsPart
 
 -- a closing added its entry
 abbrev pub HasClosed : Request → List Entry → Type 0
-HasClosed (request.Close session) E = Contains E (Closed session)
+HasClosed (request.Close session booking) E = Contains E (Closed session)
 HasClosed q E = ⊤
 
 -- the session of the request is at this place after the marks S, of which T are those that this

@@ -41,7 +41,7 @@ pub record IsReady (h : HallKnown) (old new : Known Mark) (own : List ℕ)
 -- where a form is ready for an answer, the item that the call serves at the next step is the one of
 -- this form, with its mark and the number of nodes of its tree
 abbrev pub Uses : HallKnown → Known Mark → Known Mark → Request → Assembly → Type 0
-Uses h old new (Answer session step response) made =
+Uses h old new (Answer session step response booking) made =
     (own : List ℕ) → IsReady h old new own session step response made
     → (entry : Entry) → Contains (owns (taken new.seen own)) entry
     → IsServingAt session (step + 1) entry

@@ -3,7 +3,7 @@ use Rattle.std.specs.Prelude.{⊤}
 use Rattle.history_model.specs.declared.place.Place.{Place}
 use Rattle.history_model.specs.declared.place.Place.TheVariants.{Pending, Waiting, Complete, Closed}
 use Rattle.history_model.specs.declared.refusal.Refusal.{Refusal}
-use Rattle.history_model.specs.declared.refusal.Refusal.TheVariants.{NoSession, WrongStep, Other, BadResponse, IsClosed, Stale, OtherList, NoItem, SessionsFull, NoForm, NoneFound, JournalFull, Disk, Memory}
+use Rattle.history_model.specs.declared.refusal.Refusal.TheVariants.{NoSession, WrongStep, Other, BadResponse, IsClosed, Stale, OtherList, NoItem, SessionsFull, NoForm, NoneFound, JournalFull, Disk, Memory, OtherBooking}
 use Rattle.history_model.specs.declared.request.Reply.{Reply}
 use Rattle.history_model.specs.declared.request.Reply.TheVariants.{At, Exposure, Refused}
 
@@ -17,6 +17,7 @@ IsEnd Closed = ⊤
 -- never Stale, and the place of IsClosed is an end
 abbrev pub IsRefusal : Refusal → Type 0
 IsRefusal (NoSession count) = ⊤
+IsRefusal OtherBooking = ⊤
 IsRefusal (WrongStep step) = ⊤
 IsRefusal (Other response) = ⊤
 IsRefusal (BadResponse categories) = ⊤

@@ -23,6 +23,7 @@ place_whole session place.Closed = refl
 
 refusal_whole : (r : Refusal) → has_float (refusal_body r) ≡ false
 refusal_whole (refusal.NoSession sessions) = refl
+refusal_whole refusal.OtherBooking = refl
 refusal_whole (refusal.WrongStep step) = refl
 refusal_whole (refusal.Other response) = refl
 refusal_whole (refusal.BadResponse categories) = refl

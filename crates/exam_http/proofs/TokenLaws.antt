@@ -1,6 +1,6 @@
 -- Who may ask, and texts that are compared byte by byte.
 use Rattle.std.proofs.Common.{◌≡◌, ◌≢◌, ℕ, ◌+◌, ◌<◌, ◌≤◌, Bool, true, false, List, [], ◌∷◌, ◌++◌, length, get_or, take, Option, Some, None, refl, sym, ap, subst, ◌∙◌, arith, inl, inr, ◌⊎◌, ◌==◌}
-use Rattle.std.specs.Prelude.{Result, Ok, Err, ◌||◌, bytes_eq, codes, option_and_then}
+use Rattle.std.specs.Prelude.{Result, Ok, Err, ◌||◌, bytes_eq, codes, is_some, option_and_then}
 use Rattle.std.specs.Int.Bits.{bit_or, bit_xor, xor_self, xor_add_and, or_zero_r}
 use Rattle.std.proofs.Math.Seq.{take-length}
 use Rattle.std.proofs.lemmas.Nat.{le_or_l, le_or_r, and_le_l, and_le_r}
@@ -18,7 +18,7 @@ use Rattle.exam_http.specs.declared.message_fault.MessageFault.{MessageFault}
 use Rattle.exam_http.specs.declared.message_fault.MessageFault.TheVariants.{NoMethod, BadJson, BadBody, Unauthorized}
 use Rattle.exam_http.specs.declared.route.Route.{Route}
 use Rattle.exam_http.specs.declared.route.Route.TheVariants.{Sessions, Session, Answers, Close, Exposure, Health}
-use Rattle.exam_http.specs.Asks.{Asks, AsksIf, AsksBy, AsksOn, IfJson, IsSaidBy, BeginOf, no_booking, no_list, begin, answer_of, number_member, numbers_of, up_to}
+use Rattle.exam_http.specs.Asks.{Asks, AsksIf, AsksBy, AsksOn, IfJson, IsSaidBy, BeginOf, no_booking, no_list, begin, answer_of, closing_of, booking_member, named_where, number_member, numbers_of, up_to}
 use Rattle.exam_http.specs.Paths.{method_of}
 use Rattle.exam_http.specs.Tokens.{bears, is_for_all}
 
@@ -147,15 +147,29 @@ not_said body h = from h.0 h.2
     from None e = absurd cc
     from (Some d) says = not_of_begin d (Err Unauthorized) says refl
 
+not_where : (t : Bool) (n : Option ℕ) (f : Option ℕ → Result Asked MessageFault) → ((b : Option ℕ) → f b ≢ Err Unauthorized)
+    → (named_where t (or_fault n BadBody) >>= f) ≢ Err Unauthorized
+not_where false n f h e = h None e
+not_where true None f h e = absurd cc
+not_where true (Some k) f h e = h (Some k) e
+
+not_of_booking : (d : Data) (f : Option ℕ → Result Asked MessageFault) → ((b : Option ℕ) → f b ≢ Err Unauthorized)
+    → (booking_member d >>= f) ≢ Err Unauthorized
+not_of_booking d f h = not_where (is_some (get (codes "booking") d)) (up_to 18446744073709551615 (option_and_then as_u64 (option_and_then as_number (get (codes "booking") d)))) f h
+
 not_of_answer : (s : ℕ) (d : Data) → answer_of s d ≢ Err Unauthorized
 unfolding answer_of
-not_of_answer s d = not_of_member d (codes "step") 65535 _ (λ k. not_of_member d (codes "response") 255 _ (λ n. something (ask.Request (request.Answer s k n))))
+not_of_answer s d = not_of_member d (codes "step") 65535 _ (λ k. not_of_member d (codes "response") 255 _ (λ n. not_of_booking d _ (λ b. something (ask.Request (request.Answer s k n b)))))
+
+not_closing : (s : ℕ) (value : Option Data) → closing_of s value ≢ Err Unauthorized
+not_closing s None = something (ask.Request (request.Close s None))
+not_closing s (Some d) = not_of_booking d _ (λ b. something (ask.Request (request.Close s b)))
 
 not_on : (route : Route) (body : List ℕ) → AsksOn route body (Err Unauthorized) → ⊥
 not_on Sessions body h = not_said body h
 not_on (Session s) body h = absurd cc
 not_on (Answers s) body h = parsed h.0 (answer_of s) (not_of_answer s) h.2
-not_on (Close s) body h = absurd cc
+not_on (Close s) body h = not_closing s h.0 (sym h.2)
 not_on Exposure body h = absurd cc
 not_on Health body h = absurd cc
 

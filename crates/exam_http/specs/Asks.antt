@@ -1,5 +1,5 @@
 -- What a message asks, or why it asks nothing.
-use Rattle.std.specs.Prelude.{◌≡◌, ◌≢◌, ◌⊎◌, ℕ, ◌||◌, ◌==◌, Bool, true, false, List, [], ◌∷◌, codes, nat_le, IsUtf8, if◌then◌else◌, Option, None, Some, option_and_then, Result, Ok, Err}
+use Rattle.std.specs.Prelude.{◌≡◌, ◌≢◌, ◌⊎◌, ℕ, ◌||◌, ◌==◌, Bool, true, false, List, [], ◌∷◌, codes, nat_le, IsUtf8, if◌then◌else◌, Option, None, Some, is_some, option_and_then, Result, Ok, Err}
 use Rattle.exam_text.specs.First.{or_fault, ◌>>=◌}
 use Rattle.bank_tables.specs.Items.{has, AreWords}
 use Rattle.serde_json.specs.Data.{Data, Items, no_items, item}
@@ -98,13 +98,35 @@ IsSetOf d (Err fault) = list_member d (codes "without") 511 ≡ Err fault
 IsSetOf d (Ok words) =
     (items : List ℕ) × (list_member d (codes "without") 511 ≡ Ok items) × AreItems words items
 
--- ---- an answer
+-- ---- an answer, and a closing
+
+-- a booking, where it is named
+abbrev pub named_where : Bool → Result ℕ MessageFault → Result (Option ℕ) MessageFault
+named_where false booking = Ok None
+named_where true booking = booking >>= λ n. Ok (Some n)
+
+-- the booking that the last member of this name is, if there is such a member
+abbrev pub booking_member : Data → Result (Option ℕ) MessageFault
+booking_member d = named_where (is_some (get (codes "booking") d))
+    (number_member d (codes "booking") 18446744073709551615)
 
 unfoldable pub answer_of : ℕ → Data → Result Asked MessageFault
 answer_of session d =
     number_member d (codes "step") 65535 >>= λ step.
     number_member d (codes "response") 255 >>= λ response.
-    Ok (ask.Request (request.Answer session step response))
+    booking_member d >>= λ booking.
+    Ok (ask.Request (request.Answer session step response booking))
+
+-- a body that is no JSON names no booking
+abbrev pub closing_of : ℕ → Option Data → Result Asked MessageFault
+closing_of session None = Ok (ask.Request (request.Close session None))
+closing_of session (Some d) =
+    booking_member d >>= λ booking. Ok (ask.Request (request.Close session booking))
+
+-- what a body asks of the closing of a session
+abbrev pub IsClosing : ℕ → List ℕ → Result Asked MessageFault → Type 0
+IsClosing session body asked =
+    (value : Option Data) × IsJson body value × (asked ≡ closing_of session value)
 
 -- what the value of a body asks, if the body has one
 abbrev pub IfJson : (Data → Result Asked MessageFault → Type 0) → Option Data
@@ -128,7 +150,7 @@ abbrev pub AsksOn : Route → List ℕ → Result Asked MessageFault → Type 0
 AsksOn Sessions body asked = IsSaidBy BeginOf body asked
 AsksOn (Session s) body asked = asked ≡ Ok (ask.Request (request.Look s))
 AsksOn (Answers s) body asked = IsParsedBy (answer_of s) body asked
-AsksOn (Close s) body asked = asked ≡ Ok (ask.Request (request.Close s))
+AsksOn (Close s) body asked = IsClosing s body asked
 AsksOn Exposure body asked = asked ≡ Ok (ask.Request request.Exposure)
 AsksOn Health body asked = asked ≡ Ok ask.Health
 

@@ -83,6 +83,7 @@ end_word place.Closed = codes "closed"
 abbrev pub refusal_body : Refusal → Data
 refusal_body (refusal.NoSession sessions) =
     error_body_with (refusal_word (refusal.NoSession sessions)) (whole_number sessions)
+refusal_body refusal.OtherBooking = error_body (refusal_word refusal.OtherBooking)
 refusal_body (refusal.WrongStep step) =
     error_body_with (refusal_word (refusal.WrongStep step)) (whole_number step)
 refusal_body (refusal.Other response) =
@@ -122,6 +123,7 @@ fault_name Unauthorized = codes "unauthorized"
 
 abbrev pub refusal_status : Refusal → ℕ
 refusal_status (refusal.NoSession sessions) = 404
+refusal_status refusal.OtherBooking = 409
 refusal_status (refusal.WrongStep step) = 409
 refusal_status (refusal.Other response) = 409
 refusal_status (refusal.BadResponse categories) = 422

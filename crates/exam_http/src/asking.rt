@@ -2,7 +2,7 @@
 ghost use Rattle.std.specs.Prelude.{◌≡◌, ◌≤◌, ℕ, List, [], IfOk, IfSome};
 ghost use Rattle.std.specs.Option.{option_copied};
 ghost use Rattle.serde_json.specs.View.{view, items_view};
-ghost use Rattle.exam_http.specs.Asks.{IsJson, number_member, number_in, IsSetIn, IsSetOf, AreItems, AsksBegin, BeginOf, answer_of, IsSaidBy, IsParsedBy, AsksOn, AsksBy, Asks, view_of};
+ghost use Rattle.exam_http.specs.Asks.{IsJson, number_member, number_in, IsSetIn, IsSetOf, AreItems, AsksBegin, BeginOf, booking_member, answer_of, IsClosing, IsSaidBy, IsParsedBy, AsksOn, AsksBy, Asks, view_of};
 ghost use Rattle.exam_http.specs.Tokens.{is_for_all};
 ghost use Rattle.exam_http.specs.Table.{table};
 
@@ -124,11 +124,49 @@ fn answer_of(session: u32, value: &Value) -> Result<Asked, MessageFault>
         Err(fault) => Err(fault),
         Ok(step) => match number_member(value, "response", 255) {
             Err(fault) => Err(fault),
-            Ok(response) => Ok(Asked::Request(Request::Answer {
-                session,
-                step: step as u16,
-                response: response as u8,
-            })),
+            Ok(response) => match booking_member(value) {
+                Err(fault) => Err(fault),
+                Ok(booking) => Ok(Asked::Request(Request::Answer {
+                    session,
+                    step: step as u16,
+                    response: response as u8,
+                    booking,
+                })),
+            },
+        },
+    }
+}
+
+// The booking that a value names, if it has that member.
+fn booking_member(value: &Value) -> Result<Option<u64>, MessageFault>
+    ensures { result ≡ booking_member (view value.now) }
+{
+    match value.get("booking") {
+        None => Ok(None),
+        Some(_) => match number_member(value, "booking", u64::MAX) {
+            Err(fault) => Err(fault),
+            Ok(booking) => Ok(Some(booking)),
+        },
+    }
+}
+
+// What a body asks of the closing of a session.
+fn parse_close(
+    alloc: Global,
+    session: u32,
+    body: &[u8],
+) -> Result<Result<Asked, MessageFault>, AllocError>
+    ensures { IfOk result (IsClosing session body.now) }
+{
+    match value_of(alloc, body) {
+        Err(e) => Err(e),
+        Ok(None) => Ok(Ok(Asked::Request(Request::Close {
+            session,
+            booking: None,
+        }))),
+        Ok(Some(value)) => match booking_member(&value) {
+            Err(fault) => Ok(Err(fault)),
+            Ok(booking) => Ok(Ok(Asked::Request(Request::Close { session, booking }))),
         },
     }
 }
@@ -169,7 +207,7 @@ fn asked_on(
         Route::Sessions => parse_begin(alloc, body),
         Route::Session(session) => Ok(Ok(Asked::Request(Request::Look(session)))),
         Route::Answers(session) => parse_answer(alloc, session, body),
-        Route::Close(session) => Ok(Ok(Asked::Request(Request::Close(session)))),
+        Route::Close(session) => parse_close(alloc, session, body),
         Route::Exposure => Ok(Ok(Asked::Request(Request::Exposure))),
         Route::Health => Ok(Ok(Asked::Health)),
     }

@@ -131,7 +131,7 @@ fn refusal_value(alloc: Global, refusal: Refusal) -> Result<Value, AllocError>
         Refusal::NoItem(items) => error_with_number(alloc, word, u64::from(items)),
         Refusal::SessionsFull(sessions) => error_with_number(alloc, word, u64::from(sessions)),
         Refusal::JournalFull(length) => error_with_number(alloc, word, length),
-        Refusal::NoForm | Refusal::NoneFound => error_value(alloc, word),
+        Refusal::NoForm | Refusal::NoneFound | Refusal::OtherBooking => error_value(alloc, word),
         Refusal::Disk => error_value(alloc, word),
         Refusal::Memory => error_value(alloc, word),
     }

@@ -14,7 +14,7 @@ fn refusal_status(refusal: Refusal) -> u16
         Refusal::NoSession(_) => 404,
         Refusal::WrongStep(_) | Refusal::Other(_) | Refusal::IsClosed(_) | Refusal::Stale(_, _) =>
             409,
-        Refusal::OtherList(_) => 409,
+        Refusal::OtherList(_) | Refusal::OtherBooking => 409,
         Refusal::BadResponse(_) | Refusal::NoItem(_) | Refusal::NoForm | Refusal::NoneFound => 422,
         Refusal::SessionsFull(_) | Refusal::JournalFull(_) => 507,
         Refusal::Disk => 503,

@@ -11,9 +11,9 @@ use Rattle.history_model.specs.Places.{place}
 use Rattle.exam_office.specs.declared.mark.Mark.{Mark}
 use Rattle.exam_office.specs.declared.mark.Mark.TheVariants.{Own}
 use Rattle.history_model.specs.declared.refusal.Refusal.{Refusal}
-use Rattle.history_model.specs.declared.request.Request.TheVariants.{Answer, Look}
+use Rattle.history_model.specs.declared.request.Request.TheVariants.{Answer, Close, Look}
 use Rattle.exam_office.specs.Marks.{history}
-use Rattle.history_model.specs.Refusals.{recorded, refusal_of, refusal_of_answer, in_session}
+use Rattle.history_model.specs.Refusals.{recorded, is_of_another, unless_other, refusal_of, refusal_of_answer, refusal_of_closing, in_session}
 use Rattle.exam_office.specs.Running.{Running}
 use Rattle.exam_office.specs.Writing.{IsSameOffice}
 use Rattle.exam_office.specs.Calls.{Finding, refused_with}
@@ -29,8 +29,12 @@ pub stands_by : (H : List Entry) (o : Option Place) (refusal_where : Place → O
 stands_by H (Some at) refusal_where e = (at, refl)
 stands_by H None refusal_where e = absurd (cc)
 
-pub answer_stands : (b : Tables) (plan : Plan) (H : List Entry) (s step response : ℕ) → refusal_of b plan H (Answer s step response) ≡ None → (at : Place) × (place plan H s ≡ Some at)
-answer_stands b plan H s step response e = stands_by H (place plan H s) (λ (at : Place). refusal_of_answer b step response at (recorded H s step)) e
+pub answer_stands : (b : Tables) (plan : Plan) (H : List Entry) (s step response : ℕ) (booking : Option ℕ) → refusal_of b plan H (Answer s step response booking) ≡ None → (at : Place) × (place plan H s ≡ Some at)
+answer_stands b plan H s step response booking e =
+    stands_by H (place plan H s) (λ (at : Place). unless_other (is_of_another H s booking) (refusal_of_answer b step response at (recorded H s step))) e
+
+pub closing_stands : (b : Tables) (plan : Plan) (H : List Entry) (s : ℕ) (booking : Option ℕ) → refusal_of b plan H (Close s booking) ≡ None → (at : Place) × (place plan H s ≡ Some at)
+closing_stands b plan H s booking e = stands_by H (place plan H s) (λ (at : Place). unless_other (is_of_another H s booking) (refusal_of_closing at)) e
 
 pub looked : (b : Tables) (plan : Plan) (H : List Entry) (s : ℕ) (at : Place) (result : Result Place Refusal) → place plan H s ≡ Some at → IfErr result (λ refusal. refusal_of b plan H (Look s) ≡ Some refusal) → None ≡ refused_with result
 looked b plan H s at (Ok there) stands why = refl

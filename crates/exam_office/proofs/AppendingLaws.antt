@@ -7,7 +7,7 @@ use Rattle.exam_edge.specs.Images.{AllImages, AtEachMoment, latest}
 use Rattle.exam_edge.specs.ImageLaws.{started}
 use Rattle.history_model.specs.declared.illegal.Illegal.{Illegal as Reason}
 use Rattle.history_model.specs.declared.refusal.Refusal.{Refusal}
-use Rattle.history_model.specs.declared.refusal.Refusal.TheVariants.{NoSession, WrongStep, Other, BadResponse, IsClosed, Stale, OtherList, NoItem, SessionsFull, NoForm, NoneFound, JournalFull, Disk as DiskFailed, Memory as NoMemory}
+use Rattle.history_model.specs.declared.refusal.Refusal.TheVariants.{NoSession, OtherBooking, WrongStep, Other, BadResponse, IsClosed, Stale, OtherList, NoItem, SessionsFull, NoForm, NoneFound, JournalFull, Disk as DiskFailed, Memory as NoMemory}
 use Rattle.history_model.specs.Judging.{Record, MayFollow}
 use Rattle.history_model.specs.Reasons.{IsIllegal}
 use Rattle.answer_journal.specs.Journal.{faults_of, tells_of, accounts_of, payloads_of, IsDoubtful}
@@ -28,6 +28,7 @@ disk_by old new rec NoMemory why e = absurd (cc)
 disk_by old new rec DiskFailed why e = refl
 disk_by old new rec (JournalFull size) why e = absurd (cc)
 disk_by old new rec (NoSession count) why e = absurd why
+disk_by old new rec OtherBooking why e = absurd why
 disk_by old new rec (WrongStep step) why e = absurd why
 disk_by old new rec (Other response) why e = absurd why
 disk_by old new rec (BadResponse number) why e = absurd why
@@ -45,6 +46,7 @@ unmended_some old new NoMemory why none = let some : old.doubt ≡ Some why.1 = 
 unmended_some old new DiskFailed why none = let some : old.doubt ≡ Some why.0 = why.1 in absurd (cc)
 unmended_some old new (JournalFull size) why none = absurd why
 unmended_some old new (NoSession count) why none = absurd why
+unmended_some old new OtherBooking why none = absurd why
 unmended_some old new (WrongStep step) why none = absurd why
 unmended_some old new (Other response) why none = absurd why
 unmended_some old new (BadResponse number) why none = absurd why
@@ -62,6 +64,7 @@ unwritten_same old new rec NoMemory why other = why
 unwritten_same old new rec DiskFailed why other = absurd (other refl)
 unwritten_same old new rec (JournalFull size) why other = why.0
 unwritten_same old new rec (NoSession count) why other = absurd why
+unwritten_same old new rec OtherBooking why other = absurd why
 unwritten_same old new rec (WrongStep step) why other = absurd why
 unwritten_same old new rec (Other response) why other = absurd why
 unwritten_same old new rec (BadResponse number) why other = absurd why
@@ -79,6 +82,7 @@ not_mended old new rec NoMemory why = inl why
 not_mended old new rec DiskFailed why = inl why
 not_mended old new rec (JournalFull size) why = absurd why
 not_mended old new rec (NoSession count) why = absurd why
+not_mended old new rec OtherBooking why = absurd why
 not_mended old new rec (WrongStep step) why = absurd why
 not_mended old new rec (Other response) why = absurd why
 not_mended old new rec (BadResponse number) why = absurd why
@@ -142,6 +146,7 @@ module _ {D : Type 0} (old mid : Running D) (same : IsSameOffice old mid) (sure 
         faulted = record { mark = why.mark; doubt = why.doubt; rose = rose_too grows why.rose };
       })
       not_written (NoSession count) grows spells why = absurd why
+      not_written OtherBooking grows spells why = absurd why
       not_written (WrongStep step) grows spells why = absurd why
       not_written (Other response) grows spells why = absurd why
       not_written (BadResponse number) grows spells why = absurd why

@@ -11,7 +11,7 @@ use Rattle.history_model.specs.declared.entry.Entry.TheVariants.{Started, Answer
 use Rattle.history_model.specs.declared.place.Place.{Place}
 use Rattle.history_model.specs.declared.place.Place.TheVariants.{Pending, Waiting, Complete, Closed}
 use Rattle.history_model.specs.declared.refusal.Refusal.{Refusal}
-use Rattle.history_model.specs.declared.refusal.Refusal.TheVariants.{NoSession, WrongStep, Other, BadResponse, IsClosed, Stale, OtherList, NoItem, SessionsFull, NoForm, NoneFound, JournalFull, Disk, Memory}
+use Rattle.history_model.specs.declared.refusal.Refusal.TheVariants.{NoSession, OtherBooking, WrongStep, Other, BadResponse, IsClosed, Stale, OtherList, NoItem, SessionsFull, NoForm, NoneFound, JournalFull, Disk, Memory}
 use Rattle.history_model.specs.declared.request.Exposure.{Exposure}
 use Rattle.history_model.specs.declared.request.Request.{Request}
 use Rattle.history_model.specs.declared.request.Request.TheVariants as request
@@ -21,7 +21,7 @@ use Rattle.history_model.specs.Entries.{sessions, holder, is_started, list_of}
 use Rattle.history_model.specs.Halting.{IsBeforeServing, led, IsCutOff, at_start, before_serving, IsNextOf, first}
 use Rattle.history_model.specs.Halting.{set_aside as led_aside, aside as next_aside, served as next_served}
 use Rattle.history_model.specs.Places.{place}
-use Rattle.history_model.specs.Refusals.{recorded, refusal_of, refusal_of_new, refusal_of_list, is_list, has_list, refusal_at, refusal_of_answer, refusal_of_closing, in_session}
+use Rattle.history_model.specs.Refusals.{recorded, is_of_another, unless_other, refusal_of, refusal_of_new, refusal_of_list, is_list, has_list, refusal_at, refusal_of_answer, refusal_of_closing, in_session}
 use Rattle.history_model.specs.Requests.{Begins, BeginsWithout, RecordsAnswer, Leads, by_begin, by_begin_without, by_answer, by_look, IsServedBy, IsExposureOf, DoesUnrefused, DoesUnless, Does}
 use Rattle.answer_journal.specs.Journal.{tells_of, accounts_of, faults_of, identity_of}
 use Rattle.exam_office.specs.Asking.{IsStoppedBy, AreGood, no_more, one_more, IsDurable, StandsForOne, Steps, IsBegunBy, not_begun, begun, IsOnTheWay, IsSettled, IsSettledReply, IsMendedOrFull, Becomes, done, halted, IsAsked, IsAskedSurely, reply_of}
@@ -72,6 +72,10 @@ refused_in : (H : List Entry) (o : Option Place) (f : Place → Option Refusal) 
 refused_in H None f r there e = let is : NoSession (sessions H) ≡ r = cc in subst IsRefusal is tt
 refused_in H (Some at) f r there e = there at e
 
+refused_unless : (other : Bool) (why : Option Refusal) (r : Refusal) → (why ≡ Some r → IsRefusal r) → unless_other other why ≡ Some r → IsRefusal r
+refused_unless true why r there e = let is : OtherBooking ≡ r = cc in subst IsRefusal is tt
+refused_unless false why r there e = there e
+
 refused_new : (plan : Plan) (H : List Entry) (o : Option ℕ) (r : Refusal) → refusal_of_new plan H o ≡ Some r → IsRefusal r
 refused_new plan H (Some s) r e = absurd (cc)
 refused_new plan H None r e = by (nat_le plan.sessions (sessions H)) e
@@ -95,8 +99,13 @@ refused_list b plan H items None r e = by (is_list b items) e
 pub refused_so : (b : Tables) (plan : Plan) (H : List Entry) (asked : Request) (r : Refusal) → refusal_of b plan H asked ≡ Some r → IsRefusal r
 refused_so b plan H (request.Begin booking) r e = refused_new plan H (holder H booking) r e
 refused_so b plan H (request.BeginWithout booking items) r e = refused_list b plan H items (holder H booking) r e
-refused_so b plan H (request.Answer s step response) r e = refused_in H (place plan H s) (λ (at : Place). refusal_of_answer b step response at (recorded H s step)) r (λ at e1. refused_answer b step response at (recorded H s step) r e1) e
-refused_so b plan H (request.Close s) r e = refused_in H (place plan H s) refusal_of_closing r (λ at e1. refused_closing at r e1) e
+refused_so b plan H (request.Answer s step response booking) r e =
+    let other = is_of_another H s booking in
+    let why : Place → Option Refusal = λ at. refusal_of_answer b step response at (recorded H s step) in
+    refused_in H (place plan H s) (λ (at : Place). unless_other other (why at)) r (λ at e1. refused_unless other (why at) r (refused_answer b step response at (recorded H s step) r) e1) e
+refused_so b plan H (request.Close s booking) r e =
+    let other = is_of_another H s booking in
+    refused_in H (place plan H s) (λ (at : Place). unless_other other (refusal_of_closing at)) r (λ at e1. refused_unless other (refusal_of_closing at) r (refused_closing at r) e1) e
 refused_so b plan H (request.Look s) r e = refused_in H (place plan H s) (λ (at : Place). None) r (λ at e1. absurd (cc)) e
 refused_so b plan H request.Exposure r e = absurd (cc)
 
@@ -105,6 +114,7 @@ stopped_refusal b plan H N old new Memory why = tt
 stopped_refusal b plan H N old new Disk why = tt
 stopped_refusal b plan H N old new (JournalFull size) why = tt
 stopped_refusal b plan H N old new (NoSession count) why = absurd why
+stopped_refusal b plan H N old new OtherBooking why = absurd why
 stopped_refusal b plan H N old new (WrongStep k) why = absurd why
 stopped_refusal b plan H N old new (Other k) why = absurd why
 stopped_refusal b plan H N old new (BadResponse k) why = absurd why
@@ -127,10 +137,10 @@ module _ (b : Tables) (plan : Plan) (base : List ℕ) (H : List Entry) where
   begun_lead asked s fresh G (by_begin_without booking items session flag K (BeginsWithout.is_new n eligible list none same legal)) =
       let e = Started n booking eligible (Some list) in
       begun H e (first n true e (by_begin_without booking items n true (H ++ e ∷ []) (BeginsWithout.is_new n eligible list none same legal))) (one_more H e no_more tt)
-  begun_lead asked s fresh G (by_answer session step response K (RecordsAnswer.is_there known)) = not_begun
-  begun_lead asked s fresh G (by_answer session step response K (RecordsAnswer.is_new none legal)) =
+  begun_lead asked s fresh G (by_answer session step response booking K (RecordsAnswer.is_there known)) = not_begun
+  begun_lead asked s fresh G (by_answer session step response booking K (RecordsAnswer.is_new none legal)) =
       let e = Answered session step response in
-      begun H e (first session false e (by_answer session step response (H ++ e ∷ []) (RecordsAnswer.is_new none legal))) (one_more H e no_more tt)
+      begun H e (first session false e (by_answer session step response booking (H ++ e ∷ []) (RecordsAnswer.is_new none legal))) (one_more H e no_more tt)
   begun_lead asked s fresh G (by_look session) = not_begun
 
   good_lead : (asked : Request) (s : ℕ) (fresh : Bool) (G : List Entry) → Leads b plan H asked s fresh G → AreGood b plan base H G
@@ -138,8 +148,8 @@ module _ (b : Tables) (plan : Plan) (base : List ℕ) (H : List Entry) where
   good_lead asked s fresh G (by_begin booking session flag K (Begins.is_new n eligible none legal)) = one_more H (Started n booking eligible None) no_more tt
   good_lead asked s fresh G (by_begin_without booking items session flag K (BeginsWithout.is_there n held)) = no_more
   good_lead asked s fresh G (by_begin_without booking items session flag K (BeginsWithout.is_new n eligible list none same legal)) = one_more H (Started n booking eligible (Some list)) no_more tt
-  good_lead asked s fresh G (by_answer session step response K (RecordsAnswer.is_there known)) = no_more
-  good_lead asked s fresh G (by_answer session step response K (RecordsAnswer.is_new none legal)) = one_more H (Answered session step response) no_more tt
+  good_lead asked s fresh G (by_answer session step response booking K (RecordsAnswer.is_there known)) = no_more
+  good_lead asked s fresh G (by_answer session step response booking K (RecordsAnswer.is_new none legal)) = one_more H (Answered session step response) no_more tt
   good_lead asked s fresh G (by_look session) = no_more
 
   good_joined : (G K : List Entry) → AreGood b plan base H G → AreGood b plan base G K → AreGood b plan base H K
@@ -149,7 +159,7 @@ module _ (b : Tables) (plan : Plan) (base : List ℕ) (H : List Entry) where
   unrefused_lead : (asked : Request) (s : ℕ) (fresh : Bool) (G H2 : List Entry) (answer : Reply) → Leads b plan H asked s fresh G → IsServedBy b plan H asked H2 answer → DoesUnrefused b plan H asked H2 answer
   unrefused_lead asked s fresh G H2 answer (by_begin booking session flag K begins) is = is
   unrefused_lead asked s fresh G H2 answer (by_begin_without booking items session flag K begins) is = inl is
-  unrefused_lead asked s fresh G H2 answer (by_answer session step response K records) is = is
+  unrefused_lead asked s fresh G H2 answer (by_answer session step response booking K records) is = is
   unrefused_lead asked s fresh G H2 answer (by_look session) is = is
 
   module _ (asked : Request) (s : ℕ) (fresh : Bool) (G : List Entry) (leads : Leads b plan H asked s fresh G) where
@@ -276,19 +286,19 @@ pub durable_on : {D : Type 0} (old new : Running D) → IsSameOffice old new →
 durable_on old new same durable = moved_back old new same (λ (t : Tables) (p : Plan) (c : List ℕ). IsDurable t p new) durable
 
 -- ---- a closing
-pub closed_so : {D : Type 0} (s : ℕ) (old new : Running D) (at : Place) → IsFirst (request.Close s) (DoneClosing old.bank old.plan (history old.marks) s) old new None → Steps (IsBegunBy old.bank old.plan old.base (history old.marks) (request.Close s)) old new
-    → place new.plan (history new.marks) s ≡ Some at → IsAskedSurely old (request.Close s) (reply.At s at false) new
-closed_so s old new at is steps stands =
+pub closed_so : {D : Type 0} (s : ℕ) (booking : Option ℕ) (old new : Running D) (at : Place) → IsFirst (request.Close s booking) (DoneClosing old.bank old.plan (history old.marks) s booking) old new None → Steps (IsBegunBy old.bank old.plan old.base (history old.marks) (request.Close s booking)) old new
+    → place new.plan (history new.marks) s ≡ Some at → IsAskedSurely old (request.Close s booking) (reply.At s at false) new
+closed_so s booking old new at is steps stands =
     let H = history old.marks in
     let K = history new.marks in
-    let done_so = first_led (request.Close s) (DoneClosing old.bank old.plan H s) old new is in
+    let done_so = first_led (request.Close s booking) (DoneClosing old.bank old.plan H s booking) old new is in
     let did = done_so.0 in
     let here : place old.plan K s ≡ Some at = subst (λ (p : Plan). place p K s ≡ Some at) steps.same.plan stands in
     let closed : place old.plan K s ≡ Some Closed = ap (λ (G : List Entry). place old.plan G s) did.2 ∙ closed_there old.plan H s did.1.at did.1.stands in
     let e : ◌≡◌ {A = Option Place} (Some at) (Some Closed) = sym here ∙ closed in
     let same : Closed ≡ at = cc in
     record {
-      becomes = done (does_unrefused old.bank old.plan old.base H (request.Close s) K (reply.At s at false) did.0 (record { legal = did.1; closed = did.2; at = at; stands = here; reply = refl })) done_so.1;
+      becomes = done (does_unrefused old.bank old.plan old.base H (request.Close s booking) K (reply.At s at false) did.0 (record { legal = did.1; closed = did.2; at = at; stands = here; reply = refl })) done_so.1;
       good = subst (λ (G : List Entry). AreGood old.bank old.plan old.base H G) (sym did.2) (one_more H (OfClosed s) no_more tt);
       settled = subst IsSettled same tt;
       steps = steps;
@@ -396,6 +406,7 @@ module _ {D : Type 0} (old mid : Running D) (same : IsSameOffice old mid) (frame
   unmended_so Disk why = (ap history why.2.mark ∙ history-fault old.marks why.0, why.2.rose)
   unmended_so (JournalFull size) why = absurd why
   unmended_so (NoSession count) why = absurd why
+  unmended_so OtherBooking why = absurd why
   unmended_so (WrongStep k) why = absurd why
   unmended_so (Other k) why = absurd why
   unmended_so (BadResponse k) why = absurd why

@@ -9,7 +9,7 @@ use Rattle.history_model.specs.Judging.{Record, MayFollow}
 use Rattle.answer_journal.specs.Journal.{faults_of, accounts_of}
 use Rattle.exam_office.specs.declared.mark.Mark.TheVariants.{Own}
 use Rattle.history_model.specs.declared.refusal.Refusal.{Refusal}
-use Rattle.history_model.specs.declared.refusal.Refusal.TheVariants.{NoSession, WrongStep, Other, BadResponse, IsClosed, Stale, OtherList, NoItem, SessionsFull, NoForm, NoneFound, JournalFull, Disk, Memory}
+use Rattle.history_model.specs.declared.refusal.Refusal.TheVariants.{NoSession, OtherBooking, WrongStep, Other, BadResponse, IsClosed, Stale, OtherList, NoItem, SessionsFull, NoForm, NoneFound, JournalFull, Disk, Memory}
 use Rattle.exam_office.specs.Marks.{history}
 use Rattle.exam_office.specs.Running.{Running}
 use Rattle.exam_office.specs.Writing.{IsMending, IsWriting, IsMended, IsSameOffice, IsUnwritten}
@@ -47,6 +47,7 @@ module _ {D : Type 0} (finds : List Entry → Finding → Type 0) (old mid new :
   )
   halted rec Disk grows may why = record { mark = why.mark; doubt = why.doubt; rose = rose_too grows why.rose }
   halted rec (NoSession count) grows may why = absurd why
+  halted rec OtherBooking grows may why = absurd why
   halted rec (WrongStep step) grows may why = absurd why
   halted rec (Other response) grows may why = absurd why
   halted rec (BadResponse number) grows may why = absurd why

@@ -6,7 +6,7 @@ use Rattle.exam_edge.specs.Faults.{Rose}
 use Rattle.form_model.specs.Plan.{Plan}
 use Rattle.history_model.specs.declared.entry.Entry.{Entry}
 use Rattle.history_model.specs.declared.refusal.Refusal.{Refusal}
-use Rattle.history_model.specs.declared.refusal.Refusal.TheVariants.{NoSession, WrongStep, Other, BadResponse, IsClosed, Stale, OtherList, NoItem, SessionsFull, NoForm, NoneFound, JournalFull, Disk, Memory}
+use Rattle.history_model.specs.declared.refusal.Refusal.TheVariants.{NoSession, OtherBooking, WrongStep, Other, BadResponse, IsClosed, Stale, OtherList, NoItem, SessionsFull, NoForm, NoneFound, JournalFull, Disk, Memory}
 use Rattle.history_model.specs.declared.request.Request.{Request}
 use Rattle.history_model.specs.declared.request.Request.TheVariants as request
 use Rattle.history_model.specs.declared.request.Reply.{Reply}
@@ -34,9 +34,9 @@ by_request : (b : Tables) (plan : Plan) (H : List Entry) (asked : Request) (G : 
 by_request b plan H (request.Begin booking) G answer does settled = settled_answer b plan (request.Begin booking) answer (reply.At does.session does.at does.fresh) does.reply (λ is. is) settled
 by_request b plan H (request.BeginWithout booking items) G answer (inl does) settled = settled_answer b plan (request.BeginWithout booking items) answer (reply.At does.session does.at does.fresh) does.reply (λ is. is) settled
 by_request b plan H (request.BeginWithout booking items) G answer (inr does) settled = settled_answer b plan (request.BeginWithout booking items) answer (reply.Refused does.why) does.reply (λ is. want_of b plan booking items does.why does.lacks) settled
-by_request b plan H (request.Answer s step response) G answer does settled = settled_answer b plan (request.Answer s step response) answer (reply.At does.session does.at does.fresh) does.reply (λ is. is) settled
+by_request b plan H (request.Answer s step response booking) G answer does settled = settled_answer b plan (request.Answer s step response booking) answer (reply.At does.session does.at does.fresh) does.reply (λ is. is) settled
 by_request b plan H (request.Look s) G answer does settled = settled_answer b plan (request.Look s) answer (reply.At does.session does.at does.fresh) does.reply (λ is. is) settled
-by_request b plan H (request.Close s) G answer does settled = settled_answer b plan (request.Close s) answer (reply.At s does.at Rattle.std.specs.Prelude.false) does.reply (λ is. is) settled
+by_request b plan H (request.Close s booking) G answer does settled = settled_answer b plan (request.Close s booking) answer (reply.At s does.at Rattle.std.specs.Prelude.false) does.reply (λ is. is) settled
 by_request b plan H request.Exposure G answer does settled = settled_answer b plan request.Exposure answer (reply.Exposure does.exposure) does.reply (λ is. tt) settled
 
 by_why : {D : Type 0} (b : Tables) (plan : Plan) (H : List Entry) (N : Entry → Type 0) (old new : Running D) → (Rose (faults_of old.journal) (faults_of new.journal) → ⊥) → ((size : ℕ) → IsTooLongWith b plan H N new size → ⊥) → (asked : Request) (r : Refusal) → IsStoppedBy b plan H N old new r → IsWant b plan asked r
@@ -44,6 +44,7 @@ by_why b plan H N old new no_fault fits asked Memory why = tt
 by_why b plan H N old new no_fault fits asked Disk why = absurd (no_fault why)
 by_why b plan H N old new no_fault fits asked (JournalFull size) why = absurd (fits size why)
 by_why b plan H N old new no_fault fits asked (NoSession count) why = absurd why
+by_why b plan H N old new no_fault fits asked OtherBooking why = absurd why
 by_why b plan H N old new no_fault fits asked (WrongStep k) why = absurd why
 by_why b plan H N old new no_fault fits asked (Other k) why = absurd why
 by_why b plan H N old new no_fault fits asked (BadResponse k) why = absurd why

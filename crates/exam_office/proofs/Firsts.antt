@@ -102,31 +102,31 @@ abbrev pub DoneLeading : Tables → Plan → List Entry → Request → ℕ → 
 DoneLeading b plan H request session fresh G = (refusal_of b plan H request ≡ None) × Leads b plan H request session fresh G
 
 -- an answer
-module _ {D : Type 0} (s step response : ℕ) (old new : Running D) (durable : IsDurable old.bank old.plan old)
+module _ {D : Type 0} (s step response : ℕ) (booking : Option ℕ) (old new : Running D) (durable : IsDurable old.bank old.plan old)
     (frame : IsLent tells_of identity_of faults_of old.journal new.journal)
-    (moments : IsTrue (tells_of old.journal) → AtEachMoment (accounts_of old.journal) (accounts_of new.journal) (IsLeft old.bank old.plan (FindsAnswer old.bank old.plan s step response) (history old.marks) old.doubt)) where
-  led_answer : (e : Entry) → FindsAnswer old.bank old.plan s step response (history old.marks) (add e) → Leads old.bank old.plan (history old.marks) (Answer s step response) s false (history old.marks ++ e ∷ [])
+    (moments : IsTrue (tells_of old.journal) → AtEachMoment (accounts_of old.journal) (accounts_of new.journal) (IsLeft old.bank old.plan (FindsAnswer old.bank old.plan s step response booking) (history old.marks) old.doubt)) where
+  led_answer : (e : Entry) → FindsAnswer old.bank old.plan s step response booking (history old.marks) (add e) → Leads old.bank old.plan (history old.marks) (Answer s step response booking) s false (history old.marks ++ e ∷ [])
   led_answer e says =
       let H = history old.marks in
-      subst (λ (x : Entry). Leads old.bank old.plan H (Answer s step response) s false (H ++ x ∷ [])) (sym says.2)
-      (by_answer s step response (H ++ Answered s step response ∷ []) (RecordsAnswer.is_new says.1 (subst (λ (x : Entry). Legal old.bank old.plan H x) says.2 says.3)))
+      subst (λ (x : Entry). Leads old.bank old.plan H (Answer s step response booking) s false (H ++ x ∷ [])) (sym says.2)
+      (by_answer s step response booking (H ++ Answered s step response ∷ []) (RecordsAnswer.is_new says.1 (subst (λ (x : Entry). Legal old.bank old.plan H x) says.2 says.3)))
 
   pub answer_first : (result : Result Place Refusal) → OnOk result (IsTrue (tells_of old.journal) → AllImages (StandsSecond old.bank old.plan (history new.marks)) (latest (accounts_of new.journal)))
-      → Calls (FindsAnswer old.bank old.plan s step response) old new (refused_with result) → IsFirst (Answer s step response) (DoneLeading old.bank old.plan (history old.marks) (Answer s step response) s false) old new (refused_with result)
+      → Calls (FindsAnswer old.bank old.plan s step response booking) old new (refused_with result) → IsFirst (Answer s step response booking) (DoneLeading old.bank old.plan (history old.marks) (Answer s step response booking) s false) old new (refused_with result)
   answer_first result lasts calls =
-      first_so (Answer s step response) (FindsAnswer old.bank old.plan s step response) (DoneLeading old.bank old.plan (history old.marks) (Answer s step response) s false) old new durable
+      first_so (Answer s step response booking) (FindsAnswer old.bank old.plan s step response booking) (DoneLeading old.bank old.plan (history old.marks) (Answer s step response booking) s false) old new durable
       (λ r says. by_test r says)
       (λ r e says more. one_test r says more.0)
       (λ e says. says.0)
       (λ e says. first s false e (led_answer e says))
       (λ e says. subst (λ (x : Entry). IsGood old.bank old.plan old.base (history old.marks) x) (sym says.2) tt)
-      (λ says grown. (says.0, by_answer s step response (history old.marks) (RecordsAnswer.is_there says.1)))
+      (λ says grown. (says.0, by_answer s step response booking (history old.marks) (RecordsAnswer.is_there says.1)))
       (λ e says grown. (says.0, led_answer e says))
       frame moments (refused_with result) (on_ok result (IsTrue (tells_of old.journal) → AllImages (StandsSecond old.bank old.plan (history new.marks)) (latest (accounts_of new.journal))) lasts) calls
 
-  pub answer_steps : IsSameOffice old new → Steps (IsBegunBy old.bank old.plan old.base (history old.marks) (Answer s step response)) old new
+  pub answer_steps : IsSameOffice old new → Steps (IsBegunBy old.bank old.plan old.base (history old.marks) (Answer s step response booking)) old new
   answer_steps same =
-      first_call_steps (Answer s step response) (FindsAnswer old.bank old.plan s step response) (λ G. Unit {0}) old new durable
+      first_call_steps (Answer s step response booking) (FindsAnswer old.bank old.plan s step response booking) (λ G. Unit {0}) old new durable
       (λ r says. by_test r says)
       (λ r e says more. one_test r says more.0)
       (λ e says. says.0)
@@ -137,22 +137,22 @@ module _ {D : Type 0} (s step response : ℕ) (old new : Running D) (durable : I
       frame moments same
 
 -- a closing
-abbrev pub DoneClosing : Tables → Plan → List Entry → ℕ → List Entry → Type 0
-DoneClosing b plan H s G = (refusal_of b plan H (Close s) ≡ None) × Legal b plan H (Closed s) × (G ≡ H ++ Closed s ∷ [])
+abbrev pub DoneClosing : Tables → Plan → List Entry → ℕ → Option ℕ → List Entry → Type 0
+DoneClosing b plan H s booking G = (refusal_of b plan H (Close s booking) ≡ None) × Legal b plan H (Closed s) × (G ≡ H ++ Closed s ∷ [])
 
-module _ {D : Type 0} (s : ℕ) (old new : Running D) (durable : IsDurable old.bank old.plan old)
+module _ {D : Type 0} (s : ℕ) (booking : Option ℕ) (old new : Running D) (durable : IsDurable old.bank old.plan old)
     (frame : IsLent tells_of identity_of faults_of old.journal new.journal)
-    (moments : IsTrue (tells_of old.journal) → AtEachMoment (accounts_of old.journal) (accounts_of new.journal) (IsLeft old.bank old.plan (FindsClosing old.bank old.plan s) (history old.marks) old.doubt)) where
-  next_closing : (e : Entry) → FindsClosing old.bank old.plan s (history old.marks) (add e) → IsNextOf old.bank old.plan (history old.marks) (Close s) (history old.marks) e
+    (moments : IsTrue (tells_of old.journal) → AtEachMoment (accounts_of old.journal) (accounts_of new.journal) (IsLeft old.bank old.plan (FindsClosing old.bank old.plan s booking) (history old.marks) old.doubt)) where
+  next_closing : (e : Entry) → FindsClosing old.bank old.plan s booking (history old.marks) (add e) → IsNextOf old.bank old.plan (history old.marks) (Close s booking) (history old.marks) e
   next_closing e says =
       let H = history old.marks in
-      subst (λ (x : Entry). IsNextOf old.bank old.plan H (Close s) H x) (sym says.1) (closing s refl (subst (λ (x : Entry). Legal old.bank old.plan H x) says.1 says.2))
+      subst (λ (x : Entry). IsNextOf old.bank old.plan H (Close s booking) H x) (sym says.1) (closing s booking refl (subst (λ (x : Entry). Legal old.bank old.plan H x) says.1 says.2))
 
   pub closing_first : (result : Result Place Refusal) → OnOk result (IsTrue (tells_of old.journal) → AllImages (StandsSecond old.bank old.plan (history new.marks)) (latest (accounts_of new.journal)))
-      → Calls (FindsClosing old.bank old.plan s) old new (refused_with result) → IsFirst (Close s) (DoneClosing old.bank old.plan (history old.marks) s) old new (refused_with result)
+      → Calls (FindsClosing old.bank old.plan s booking) old new (refused_with result) → IsFirst (Close s booking) (DoneClosing old.bank old.plan (history old.marks) s booking) old new (refused_with result)
   closing_first result lasts calls =
       let H = history old.marks in
-      first_so (Close s) (FindsClosing old.bank old.plan s) (DoneClosing old.bank old.plan H s) old new durable
+      first_so (Close s booking) (FindsClosing old.bank old.plan s booking) (DoneClosing old.bank old.plan H s booking) old new durable
       (λ r says. by_test r says)
       (λ r e says more. one_test r says more.0)
       (λ e says. says.0)
@@ -162,9 +162,9 @@ module _ {D : Type 0} (s : ℕ) (old new : Running D) (durable : IsDurable old.b
       (λ e says grown. (says.0, subst (λ (x : Entry). Legal old.bank old.plan H x) says.1 says.2, ap (λ (x : Entry). H ++ x ∷ []) says.1))
       frame moments (refused_with result) (on_ok result (IsTrue (tells_of old.journal) → AllImages (StandsSecond old.bank old.plan (history new.marks)) (latest (accounts_of new.journal))) lasts) calls
 
-  pub closing_steps : IsSameOffice old new → Steps (IsBegunBy old.bank old.plan old.base (history old.marks) (Close s)) old new
+  pub closing_steps : IsSameOffice old new → Steps (IsBegunBy old.bank old.plan old.base (history old.marks) (Close s booking)) old new
   closing_steps same =
-      first_call_steps (Close s) (FindsClosing old.bank old.plan s) (λ G. Unit {0}) old new durable
+      first_call_steps (Close s booking) (FindsClosing old.bank old.plan s booking) (λ G. Unit {0}) old new durable
       (λ r says. by_test r says)
       (λ r e says more. one_test r says more.0)
       (λ e says. says.0)

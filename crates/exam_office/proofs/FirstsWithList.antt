@@ -8,7 +8,7 @@ use Rattle.form_model.specs.Plan.{Plan}
 use Rattle.history_model.specs.declared.entry.Entry.{Entry}
 use Rattle.history_model.specs.declared.entry.Entry.TheVariants.{Started}
 use Rattle.history_model.specs.declared.refusal.Refusal.{Refusal}
-use Rattle.history_model.specs.declared.refusal.Refusal.TheVariants.{NoSession, WrongStep, Other, BadResponse, IsClosed, Stale, OtherList, NoItem, SessionsFull, NoForm, NoneFound, JournalFull, Disk, Memory}
+use Rattle.history_model.specs.declared.refusal.Refusal.TheVariants.{NoSession, OtherBooking, WrongStep, Other, BadResponse, IsClosed, Stale, OtherList, NoItem, SessionsFull, NoForm, NoneFound, JournalFull, Disk, Memory}
 use Rattle.history_model.specs.declared.request.Request.TheVariants.{BeginWithout}
 use Rattle.history_model.specs.Entries.{holder}
 use Rattle.history_model.specs.Halting.{IsNextOf, first}
@@ -43,6 +43,7 @@ module _ (b : Tables) (plan : Plan) (H : List Entry) (booking : ℕ) (items : Li
   by_lack Disk lacks = by_form Disk lacks
   by_lack (JournalFull size) lacks = by_form (JournalFull size) lacks
   by_lack (NoSession count) lacks = by_form (NoSession count) lacks
+  by_lack OtherBooking lacks = by_form OtherBooking lacks
   by_lack (WrongStep k) lacks = by_form (WrongStep k) lacks
   by_lack (Other k) lacks = by_form (Other k) lacks
   by_lack (BadResponse k) lacks = by_form (BadResponse k) lacks

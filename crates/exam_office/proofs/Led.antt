@@ -1,5 +1,5 @@
 -- A request from what it does first.
-use Rattle.std.proofs.Common.{◌≡◌, ◌⊎◌, ℕ, Bool, true, false, List, Some, Result, Ok, Err, IfOk, IfErr, refl, sym, ap, subst, inl, inr}
+use Rattle.std.proofs.Common.{◌≡◌, ◌⊎◌, ℕ, Bool, true, false, List, Option, Some, Result, Ok, Err, IfOk, IfErr, refl, sym, ap, subst, inl, inr}
 use Rattle.history_model.specs.declared.entry.Entry.{Entry}
 use Rattle.history_model.specs.declared.place.Place.{Place}
 use Rattle.history_model.specs.declared.place.Place.TheVariants.{Pending}
@@ -67,22 +67,22 @@ module _ {D : Type 0} (old mid : Running D) (durable : IsDurable old.bank old.pl
       subst (λ (r : Reply). IsLedOrDone old mid asked r) (sym is)
       (first_fails asked old mid (λ G. Unit {0}) (Some q) q refl (list_unstarted booking items witness old mid durable c.frame c.moments q c.call) (list_steps booking items witness old mid durable c.frame c.moments c.same))
 
-  answer_led : (s step response : ℕ) (found : Result Place Refusal) → IsCall (FindsAnswer old.bank old.plan s step response) old mid found → IsPlaceOf mid s found → IsLedOrDone old mid (request.Answer s step response) (reply_of s false found)
-  answer_led s step response (Ok at) c stands =
-      let asked = request.Answer s step response in
-      let led = first_led asked (DoneLeading old.bank old.plan (history old.marks) asked s false) old mid (answer_first s step response old mid durable c.frame c.moments (Ok at) c.images c.call) in
-      inl (record { steps = answer_steps s step response old mid durable c.frame c.moments c.same; leading = led.0; lasts = led.1; stands = stands })
-  answer_led s step response (Err q) c stands =
-      let asked = request.Answer s step response in
-      first_fails asked old mid (DoneLeading old.bank old.plan (history old.marks) asked s false) (Some q) q refl (answer_first s step response old mid durable c.frame c.moments (Err q) c.images c.call)
-      (answer_steps s step response old mid durable c.frame c.moments c.same)
+  answer_led : (s step response : ℕ) (booking : Option ℕ) (found : Result Place Refusal) → IsCall (FindsAnswer old.bank old.plan s step response booking) old mid found → IsPlaceOf mid s found → IsLedOrDone old mid (request.Answer s step response booking) (reply_of s false found)
+  answer_led s step response booking (Ok at) c stands =
+      let asked = request.Answer s step response booking in
+      let led = first_led asked (DoneLeading old.bank old.plan (history old.marks) asked s false) old mid (answer_first s step response booking old mid durable c.frame c.moments (Ok at) c.images c.call) in
+      inl (record { steps = answer_steps s step response booking old mid durable c.frame c.moments c.same; leading = led.0; lasts = led.1; stands = stands })
+  answer_led s step response booking (Err q) c stands =
+      let asked = request.Answer s step response booking in
+      first_fails asked old mid (DoneLeading old.bank old.plan (history old.marks) asked s false) (Some q) q refl (answer_first s step response booking old mid durable c.frame c.moments (Err q) c.images c.call)
+      (answer_steps s step response booking old mid durable c.frame c.moments c.same)
 
-  closing_led : (s : ℕ) (found : Result Place Refusal) → IsCall (FindsClosing old.bank old.plan s) old mid found → IsPlaceOf mid s found → IsLedOrDone old mid (request.Close s) (reply_of s false found)
-  closing_led s (Ok at) c stands =
-      inr (closed_so s old mid at (closing_first s old mid durable c.frame c.moments (Ok at) c.images c.call) (closing_steps s old mid durable c.frame c.moments c.same) stands)
-  closing_led s (Err q) c stands =
-      first_fails (request.Close s) old mid (DoneClosing old.bank old.plan (history old.marks) s) (Some q) q refl (closing_first s old mid durable c.frame c.moments (Err q) c.images c.call)
-      (closing_steps s old mid durable c.frame c.moments c.same)
+  closing_led : (s : ℕ) (booking : Option ℕ) (found : Result Place Refusal) → IsCall (FindsClosing old.bank old.plan s booking) old mid found → IsPlaceOf mid s found → IsLedOrDone old mid (request.Close s booking) (reply_of s false found)
+  closing_led s booking (Ok at) c stands =
+      inr (closed_so s booking old mid at (closing_first s booking old mid durable c.frame c.moments (Ok at) c.images c.call) (closing_steps s booking old mid durable c.frame c.moments c.same) stands)
+  closing_led s booking (Err q) c stands =
+      first_fails (request.Close s booking) old mid (DoneClosing old.bank old.plan (history old.marks) s booking) (Some q) q refl (closing_first s booking old mid durable c.frame c.moments (Err q) c.images c.call)
+      (closing_steps s booking old mid durable c.frame c.moments c.same)
 
 -- a request that only looks
 module _ {D : Type 0} (office : Running D) (durable : IsDurable office.bank office.plan office) where
@@ -103,9 +103,9 @@ module _ {D : Type 0} (old mid : Running D) (durable : IsDurable old.bank old.pl
   pub led_or_done : (asked : Request) (witness : Result (List ℕ) Refusal) (answer : Reply) → IsLead asked witness old mid answer → IsLedOrDone old mid asked answer
   led_or_done (request.Begin booking) witness answer l = start_led old mid durable booking l.begun answer l.call l.session l.fresh l.reply_is
   led_or_done (request.BeginWithout booking items) witness answer l = list_led old mid durable booking items witness l.begun answer l.call l.session l.fresh l.reply_is
-  led_or_done (request.Answer s step response) witness answer l =
-      subst (λ (r : Reply). IsLedOrDone old mid (request.Answer s step response) r) (sym l.reply_is) (answer_led old mid durable s step response l.found l.call l.at)
-  led_or_done (request.Close s) witness answer l = subst (λ (r : Reply). IsLedOrDone old mid (request.Close s) r) (sym l.reply_is) (closing_led old mid durable s l.found l.call l.at)
+  led_or_done (request.Answer s step response booking) witness answer l =
+      subst (λ (r : Reply). IsLedOrDone old mid (request.Answer s step response booking) r) (sym l.reply_is) (answer_led old mid durable s step response booking l.found l.call l.at)
+  led_or_done (request.Close s booking) witness answer l = subst (λ (r : Reply). IsLedOrDone old mid (request.Close s booking) r) (sym l.reply_is) (closing_led old mid durable s booking l.found l.call l.at)
   led_or_done (request.Look s) witness answer l =
       let look = l.1 in
       subst (λ (m : Running D). IsLedOrDone old m (request.Look s) answer) (sym l.0)

@@ -7,7 +7,7 @@ use Rattle.exam_edge.specs.Lent.{IsLent}
 use Rattle.exam_handler.specs.Handling.{IsProbeRefusal}
 use Rattle.exam_handler.specs.declared.health.Health.{Health}
 use Rattle.history_model.specs.declared.refusal.Refusal.{Refusal}
-use Rattle.history_model.specs.declared.refusal.Refusal.TheVariants.{NoSession, WrongStep, Other, BadResponse, IsClosed, Stale, OtherList, NoItem, SessionsFull, NoForm, NoneFound, JournalFull, Disk, Memory}
+use Rattle.history_model.specs.declared.refusal.Refusal.TheVariants.{NoSession, OtherBooking, WrongStep, Other, BadResponse, IsClosed, Stale, OtherList, NoItem, SessionsFull, NoForm, NoneFound, JournalFull, Disk, Memory}
 use Rattle.answer_journal.specs.Journal.{tells_of, accounts_of, faults_of, identity_of}
 use Rattle.exam_office.specs.Asking.{StandsForOne, Steps}
 use Rattle.exam_office.specs.Files.{StandsSecond}
@@ -48,6 +48,7 @@ module _ {D : Type 0} (old mid : Running D) (same : IsSameOffice old mid) (frame
   why_not Disk why = tt
   why_not (JournalFull size) why = absurd why
   why_not (NoSession count) why = absurd why
+  why_not OtherBooking why = absurd why
   why_not (WrongStep k) why = absurd why
   why_not (Other k) why = absurd why
   why_not (BadResponse k) why = absurd why

@@ -7,7 +7,7 @@ use Rattle.exam_edge.specs.Lent.{IsLent}
 use Rattle.form_model.specs.Plan.{Plan}
 use Rattle.history_model.specs.declared.entry.Entry.{Entry}
 use Rattle.history_model.specs.declared.refusal.Refusal.{Refusal}
-use Rattle.history_model.specs.declared.refusal.Refusal.TheVariants.{NoSession, WrongStep, Other, BadResponse, IsClosed, Stale, OtherList, NoItem, SessionsFull, NoForm, NoneFound, JournalFull, Disk, Memory}
+use Rattle.history_model.specs.declared.refusal.Refusal.TheVariants.{NoSession, OtherBooking, WrongStep, Other, BadResponse, IsClosed, Stale, OtherList, NoItem, SessionsFull, NoForm, NoneFound, JournalFull, Disk, Memory}
 use Rattle.history_model.specs.Judging.{MayFollow}
 use Rattle.answer_journal.specs.Journal.{tells_of, accounts_of, faults_of, identity_of}
 use Rattle.exam_office.specs.declared.mark.Mark.{Mark}
@@ -40,6 +40,7 @@ stopped_weaker b plan H N Q leads old mid new grows stays Memory why = λ e. why
 stopped_weaker b plan H N Q leads old mid new grows stays Disk why = omega (arith, grows, why)
 stopped_weaker b plan H N Q leads old mid new grows stays (JournalFull size) why = record { last = why.last; next = leads why.last.entry why.next; spells = why.spells; may = why.may; size_is = why.size_is; above = why.above; sure = why.sure }
 stopped_weaker b plan H N Q leads old mid new grows stays (NoSession count) why = absurd why
+stopped_weaker b plan H N Q leads old mid new grows stays OtherBooking why = absurd why
 stopped_weaker b plan H N Q leads old mid new grows stays (WrongStep k) why = absurd why
 stopped_weaker b plan H N Q leads old mid new grows stays (Other k) why = absurd why
 stopped_weaker b plan H N Q leads old mid new grows stays (BadResponse k) why = absurd why
@@ -66,6 +67,7 @@ no_unmended old new no_doubt Memory why = let e : ◌≡◌ {A = Option Entry} (
 no_unmended old new no_doubt Disk why = let e : ◌≡◌ {A = Option Entry} (Some why.0) None = sym why.1 ∙ no_doubt in absurd (cc)
 no_unmended old new no_doubt (JournalFull size) why = why
 no_unmended old new no_doubt (NoSession count) why = why
+no_unmended old new no_doubt OtherBooking why = why
 no_unmended old new no_doubt (WrongStep k) why = why
 no_unmended old new no_doubt (Other k) why = why
 no_unmended old new no_doubt (BadResponse k) why = why
@@ -98,6 +100,7 @@ module _ {D : Type 0} (finds : List Entry → Finding → Type 0) (old new : Run
           sure = why.0.sure;
         })
     not_written e (NoSession count) says why = absurd why
+    not_written e OtherBooking says why = absurd why
     not_written e (WrongStep k) says why = absurd why
     not_written e (Other k) says why = absurd why
     not_written e (BadResponse k) says why = absurd why

@@ -15,7 +15,7 @@ use Rattle.history_model.specs.declared.entry.Cause.TheVariants.{NoForm as Cause
 use Rattle.history_model.specs.declared.entry.Entry.{Entry}
 use Rattle.history_model.specs.declared.place.Place.{Place}
 use Rattle.history_model.specs.declared.refusal.Refusal.{Refusal}
-use Rattle.history_model.specs.declared.refusal.Refusal.TheVariants.{NoSession, WrongStep, Other, BadResponse, IsClosed, Stale, OtherList, NoItem, SessionsFull, NoForm as RefusedNoForm, NoneFound as RefusedNoneFound, JournalFull, Disk, Memory}
+use Rattle.history_model.specs.declared.refusal.Refusal.TheVariants.{NoSession, OtherBooking, WrongStep, Other, BadResponse, IsClosed, Stale, OtherList, NoItem, SessionsFull, NoForm as RefusedNoForm, NoneFound as RefusedNoneFound, JournalFull, Disk, Memory}
 use Rattle.history_model.specs.Legality.{Legal}
 use Rattle.history_model.specs.SessionProblems.{IsProblemOf}
 use Rattle.answer_journal.specs.Journal.{tells_of, accounts_of, faults_of, identity_of}
@@ -78,6 +78,7 @@ module _ {D : Type 0} (session : ℕ) (old new : Running D) (a : Assembly) (for 
   not_stale Disk says = says
   not_stale (JournalFull size) says = says
   not_stale (NoSession count) says = says
+  not_stale OtherBooking says = says
   not_stale (WrongStep k) says = says
   not_stale (Other k) says = says
   not_stale (BadResponse k) says = says

@@ -88,14 +88,15 @@ pub data Calls {D : Type 0} (finds : List Entry → Finding
       → Calls finds old new (Some refusal)
 
 -- the tests of an answer: it is refused; it is recorded; or it is to be added
-abbrev pub FindsAnswer : Tables → Plan → ℕ → ℕ → ℕ → List Entry → Finding → Type 0
-FindsAnswer b plan session step response H (refuse refusal) =
-    refusal_of b plan H (Answer session step response) ≡ Some refusal
-FindsAnswer b plan session step response H nothing =
-    (refusal_of b plan H (Answer session step response) ≡ None)
+abbrev pub FindsAnswer : Tables → Plan → ℕ → ℕ → ℕ → Option ℕ → List Entry → Finding → Type 0
+FindsAnswer b plan session step response booking H (refuse refusal) =
+    refusal_of b plan H (Answer session step response booking) ≡ Some refusal
+FindsAnswer b plan session step response booking H nothing =
+    (refusal_of b plan H (Answer session step response booking) ≡ None)
     × (recorded H session step ≡ Some response)
-FindsAnswer b plan session step response H (add entry) =
-    (refusal_of b plan H (Answer session step response) ≡ None) × (recorded H session step ≡ None)
+FindsAnswer b plan session step response booking H (add entry) =
+    (refusal_of b plan H (Answer session step response booking) ≡ None)
+    × (recorded H session step ≡ None)
     × (entry ≡ Answered session step response) × Legal b plan H entry
 
 -- the entry starts a session for a booking, without a list
@@ -150,18 +151,20 @@ FindsStartWithout b plan booking items witness H (add entry) =
     × IsStartWithout booking items witness entry × Legal b plan H entry
 
 -- those of a closing: it is refused; or it is to be added
-abbrev pub FindsClosing : Tables → Plan → ℕ → List Entry → Finding → Type 0
-FindsClosing b plan session H (refuse refusal) = refusal_of b plan H (Close session) ≡ Some refusal
-FindsClosing b plan session H nothing = ⊥
-FindsClosing b plan session H (add entry) =
-    (refusal_of b plan H (Close session) ≡ None) × (entry ≡ Closed session) × Legal b plan H entry
+abbrev pub FindsClosing : Tables → Plan → ℕ → Option ℕ → List Entry → Finding → Type 0
+FindsClosing b plan session booking H (refuse refusal) =
+    refusal_of b plan H (Close session booking) ≡ Some refusal
+FindsClosing b plan session booking H nothing = ⊥
+FindsClosing b plan session booking H (add entry) =
+    (refusal_of b plan H (Close session booking) ≡ None) × (entry ≡ Closed session)
+    × Legal b plan H entry
 
 -- the answer is recorded, or is to be added
-abbrev pub IsAnswerFound : Tables → Plan → List Entry → ℕ → ℕ → ℕ → Bool → Type 0
-IsAnswerFound b plan H session step response true =
-    FindsAnswer b plan session step response H nothing
-IsAnswerFound b plan H session step response false =
-    FindsAnswer b plan session step response H (add (Answered session step response))
+abbrev pub IsAnswerFound : Tables → Plan → List Entry → ℕ → ℕ → ℕ → Option ℕ → Bool → Type 0
+IsAnswerFound b plan H session step response booking true =
+    FindsAnswer b plan session step response booking H nothing
+IsAnswerFound b plan H session step response booking false =
+    FindsAnswer b plan session step response booking H (add (Answered session step response))
 
 -- the booking has this session, or an entry is to be added that starts it
 abbrev pub IsStartFound : Tables → Plan → List Entry → ℕ → ℕ → Option Entry → Type 0

@@ -100,9 +100,9 @@ IsLead (request.Begin booking) witness old new answer =
 IsLead (request.BeginWithout booking items) witness old new answer =
     IsStart (FindsStartWithout old.bank old.plan booking items witness) booking
     (IsStartWithout booking items witness) old new answer
-IsLead (request.Answer session step response) witness old new answer =
-    IsCallIn (FindsAnswer old.bank old.plan session step response) session old new answer
-IsLead (request.Close session) witness old new answer =
-    IsCallIn (FindsClosing old.bank old.plan session) session old new answer
+IsLead (request.Answer session step response booking) witness old new answer =
+    IsCallIn (FindsAnswer old.bank old.plan session step response booking) session old new answer
+IsLead (request.Close session booking) witness old new answer =
+    IsCallIn (FindsClosing old.bank old.plan session booking) session old new answer
 IsLead (request.Look session) witness old new answer = (new ≡ old) × IsLook session old answer
 IsLead request.Exposure witness old new answer = (new ≡ old) × IsCountedReply old answer

@@ -8,7 +8,7 @@ ghost use Rattle.history_model.specs.declared.request.Request.TheVariants.{Answe
 ghost use Rattle.answer_journal.specs.Journal.{tells_of, accounts_of, faults_of, identity_of};
 ghost use Rattle.exam_office.specs.Files.{StandsSecond};
 ghost use Rattle.exam_office.specs.Marks.{history};
-ghost use Rattle.history_model.specs.Refusals.{refusal_of};
+ghost use Rattle.history_model.specs.Refusals.{is_of_another, refusal_of};
 ghost use Rattle.exam_office.specs.Writing.{IsSameOffice};
 ghost use Rattle.exam_office.specs.Calls.{Calls, FindsAnswer, IsLeft, refused_with, IsAnswerFound};
 
@@ -31,16 +31,38 @@ impl<'a, D: Disk> Office<'a, D> {
         }
     }
 
+    /// Whether the session is not that of the booking that a request names, if it names one.
+    pub(crate) fn is_of_another(&self, session: u32, booking: Option<u64>) -> bool
+        ensures { result ≡ is_of_another (history self.now.marks) session booking }
+    {
+        let Some(booking) = booking else {
+            return false;
+        };
+        match self.book.booked(booking) {
+            Some(other) => other != session,
+            None => true,
+        }
+    }
+
     /// Whether an answer is recorded already, or why it is refused.
-    fn find_answer(&self, session: u32, step: u16, response: u8) -> Result<bool, Refusal>
+    fn find_answer(
+        &self,
+        session: u32,
+        step: u16,
+        response: u8,
+        booking: Option<u64>,
+    ) -> Result<bool, Refusal>
         ensures found { IfOk result (λ is_recorded. IsAnswerFound self.now.bank self.now.plan
-            (history self.now.marks) session step response is_recorded) }
+            (history self.now.marks) session step response booking is_recorded) }
         ensures refused { IfErr result (λ refusal. refusal_of self.now.bank self.now.plan
-            (history self.now.marks) (Answer session step response) ≡ Some refusal) }
+            (history self.now.marks) (Answer session step response booking) ≡ Some refusal) }
     {
         let Some(place) = self.book.place(session) else {
             return Err(Refusal::NoSession(self.book.sessions()));
         };
+        if self.is_of_another(session, booking) {
+            return Err(Refusal::OtherBooking);
+        }
         if let Some(given) = self.book.recorded(session, step) {
             if given == response {
                 return Ok(true);
@@ -64,18 +86,23 @@ impl<'a, D: Disk> Office<'a, D> {
         }
     }
 
-    /// Records an answer.
+    /// Records an answer. One that is recorded already adds nothing, and gives the place of now.
+    ///
+    /// Refused, in this order, with `NoSession`, with `OtherBooking` if a booking is named and the
+    /// session is not that booking's, with `Other` if the step has another response, and with
+    /// `IsClosed`, `WrongStep` or `BadResponse`.
     pub fn answer(
         &mut self,
         alloc: Global,
         session: u32,
         step: u16,
         response: u8,
+        booking: Option<u64>,
     ) -> Result<Place, Refusal>
         ensures same { IsSameOffice self.old self.new }
         ensures call { Calls
-            (FindsAnswer self.old.bank self.old.plan session step response) self.old self.new
-            (refused_with result) }
+            (FindsAnswer self.old.bank self.old.plan session step response booking) self.old
+            self.new (refused_with result) }
         ensures at { IfOk result (λ at. place self.new.plan (history self.new.marks) session
             ≡ Some at) }
         ensures images { OnOk result (IsTrue (tells_of self.old.journal)
@@ -84,7 +111,7 @@ impl<'a, D: Disk> Office<'a, D> {
         ensures moments { IsTrue (tells_of self.old.journal)
             → AtEachMoment (accounts_of self.old.journal) (accounts_of self.new.journal)
             (IsLeft self.old.bank self.old.plan
-            (FindsAnswer self.old.bank self.old.plan session step response)
+            (FindsAnswer self.old.bank self.old.plan session step response booking)
             (history self.old.marks) self.old.doubt) }
         ensures frame { IsLent tells_of identity_of faults_of self.old.journal self.new.journal }
     {
@@ -92,7 +119,7 @@ impl<'a, D: Disk> Office<'a, D> {
             Ok(()) => {}
             Err(refusal) => return Err(refusal),
         }
-        match self.find_answer(session, step, response) {
+        match self.find_answer(session, step, response, booking) {
             Err(refusal) => Err(refusal),
             Ok(true) => self.look(session),
             Ok(false) => {

@@ -77,12 +77,13 @@ impl<'a, D: Disk> Office<'a, D> {
                 session,
                 step,
                 response,
+                booking,
             } => {
-                let found = self.answer(alloc, *session, *step, *response);
+                let found = self.answer(alloc, *session, *step, *response, *booking);
                 replied(*session, false, found)
             }
-            Request::Close(session) => {
-                let found = self.close(alloc, *session);
+            Request::Close { session, booking } => {
+                let found = self.close(alloc, *session, *booking);
                 replied(*session, false, found)
             }
             Request::Look(session) => replied(*session, false, self.look(*session)),

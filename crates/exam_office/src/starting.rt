@@ -215,15 +215,18 @@ impl<'a, D: Disk> Office<'a, D> {
     }
 
     /// Why a session may not be closed; none where it may.
-    fn find_closing(&self, session: u32) -> Result<(), Refusal>
-        ensures found { OnOk result (FindsClosing self.now.bank self.now.plan session
+    fn find_closing(&self, session: u32, booking: Option<u64>) -> Result<(), Refusal>
+        ensures found { OnOk result (FindsClosing self.now.bank self.now.plan session booking
             (history self.now.marks) (add (Closed session))) }
-        ensures refused { IfErr result (λ refusal. FindsClosing self.now.bank self.now.plan session
-            (history self.now.marks) (refuse refusal)) }
+        ensures refused { IfErr result (λ refusal. FindsClosing self.now.bank self.now.plan
+            session booking (history self.now.marks) (refuse refusal)) }
     {
         let Some(place) = self.book.place(session) else {
             return Err(Refusal::NoSession(self.book.sessions()));
         };
+        if self.is_of_another(session, booking) {
+            return Err(Refusal::OtherBooking);
+        }
         match place {
             Place::Pending(_) | Place::Waiting { .. } => Ok(()),
             Place::Complete | Place::Closed => Err(Refusal::IsClosed(place)),
@@ -231,10 +234,18 @@ impl<'a, D: Disk> Office<'a, D> {
     }
 
     /// Closes a session before its end.
-    pub fn close(&mut self, alloc: Global, session: u32) -> Result<Place, Refusal>
+    ///
+    /// Refused, in this order, with `NoSession`, with `OtherBooking` if a booking is named and the
+    /// session is not that booking's, and with `IsClosed`.
+    pub fn close(
+        &mut self,
+        alloc: Global,
+        session: u32,
+        booking: Option<u64>,
+    ) -> Result<Place, Refusal>
         ensures same { IsSameOffice self.old self.new }
-        ensures call { Calls (FindsClosing self.old.bank self.old.plan session) self.old self.new
-            (refused_with result) }
+        ensures call { Calls (FindsClosing self.old.bank self.old.plan session booking) self.old
+            self.new (refused_with result) }
         ensures at { IfOk result (λ at. place self.new.plan (history self.new.marks) session
             ≡ Some at) }
         ensures images { OnOk result (IsTrue (tells_of self.old.journal)
@@ -242,7 +253,8 @@ impl<'a, D: Disk> Office<'a, D> {
             (latest (accounts_of self.new.journal))) }
         ensures moments { IsTrue (tells_of self.old.journal)
             → AtEachMoment (accounts_of self.old.journal) (accounts_of self.new.journal)
-            (IsLeft self.old.bank self.old.plan (FindsClosing self.old.bank self.old.plan session)
+            (IsLeft self.old.bank self.old.plan
+            (FindsClosing self.old.bank self.old.plan session booking)
             (history self.old.marks) self.old.doubt) }
         ensures frame { IsLent tells_of identity_of faults_of self.old.journal self.new.journal }
     {
@@ -250,7 +262,7 @@ impl<'a, D: Disk> Office<'a, D> {
             Ok(()) => {}
             Err(refusal) => return Err(refusal),
         }
-        match self.find_closing(session) {
+        match self.find_closing(session, booking) {
             Err(refusal) => Err(refusal),
             Ok(()) => {
                 let entry = Entry::Closed { session };

@@ -18,7 +18,7 @@ use Rattle.history_model.specs.declared.request.Request.{Request}
 use Rattle.history_model.specs.declared.request.Request.TheVariants.{Begin, BeginWithout, Answer, Close, Look, Exposure}
 use Rattle.history_model.specs.Halting.{IsNextOf}
 use Rattle.history_model.specs.Lists.{LacksForm, no_form, none_found}
-use Rattle.history_model.specs.Refusals.{recorded, refusal_of, refusal_of_new, is_list, has_list, refusal_of_list, refusal_at, refusal_of_answer, refusal_of_closing, in_session}
+use Rattle.history_model.specs.Refusals.{recorded, refusal_of, refusal_of_new, is_list, has_list, refusal_of_list, refusal_at, refusal_of_answer, refusal_of_closing, in_session, is_of_another, unless_other}
 use Rattle.history_model.specs.Entries.{holder, list_of}
 use Rattle.history_model.specs.Places.{place}
 use Rattle.history_model.specs.Requests.{Does, DoesUnless, DoesUnrefused}
@@ -89,12 +89,20 @@ tested_list b plan H items None r e = here (is_list b items) e
     here true e = tested_new plan H None r e
     here false e = tested_is _ r tt e
 
+tested_booking : (other : Bool) (o : Option Refusal) (r : Refusal) → (o ≡ Some r → IsTested r) → unless_other other o ≡ Some r → IsTested r
+tested_booking true o r rest e = tested_is _ r tt e
+tested_booking false o r rest e = rest e
+
 tested : (b : Tables) (plan : Plan) (H : List Entry) (request : Request) (r : Refusal) → refusal_of b plan H request ≡ Some r → IsTested r
 tested b plan H (Begin booking) r e = tested_new plan H (holder H booking) r e
 tested b plan H (BeginWithout booking items) r e = tested_list b plan H items (holder H booking) r e
-tested b plan H (Answer session step response) r e =
-    tested_in H (place plan H session) (λ (at : Place). refusal_of_answer b step response at (recorded H session step)) (λ at r. tested_answer b step response at (recorded H session step) r) r e
-tested b plan H (Close session) r e = tested_in H (place plan H session) refusal_of_closing tested_closing r e
+tested b plan H (Answer session step response booking) r e =
+    let other : Bool = is_of_another H session booking in
+    let why_at : Place → Option Refusal = λ at. refusal_of_answer b step response at (recorded H session step) in
+    tested_in H (place plan H session) (λ (at : Place). unless_other other (why_at at)) (λ at r. tested_booking other (why_at at) r (tested_answer b step response at (recorded H session step) r)) r e
+tested b plan H (Close session booking) r e =
+    let other : Bool = is_of_another H session booking in
+    tested_in H (place plan H session) (λ (at : Place). unless_other other (refusal_of_closing at)) (λ at r. tested_booking other (refusal_of_closing at) r (tested_closing at r)) r e
 tested b plan H (Look session) r e = tested_in H (place plan H session) (λ (at : Place). None) (λ at r f. cc) r e
 tested b plan H Exposure r e = cc
 
@@ -116,8 +124,8 @@ unrefused b plan G (BeginWithout booking items) K r of (inr d) =
     let e = d.reply in
     let same : r ≡ d.why = cc in
     not_lacking b plan (has items) d.why d.lacks (subst IsOfTests same of)
-unrefused b plan G (Answer session step response) K r of d = let e = d.reply in cc
-unrefused b plan G (Close session) K r of d = let e = d.reply in cc
+unrefused b plan G (Answer session step response booking) K r of d = let e = d.reply in cc
+unrefused b plan G (Close session booking) K r of d = let e = d.reply in cc
 unrefused b plan G (Look session) K r of d = let e = d.reply in cc
 unrefused b plan G Exposure K r of d = let e = d.reply in cc
 

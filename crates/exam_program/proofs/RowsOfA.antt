@@ -55,7 +55,7 @@ use Rattle.exam_program.proofs.ScriptLaws.{not_yet}
 
 -- ---- the script, its replies and their lines: a session of three items, answered by 1, 0 and 1
 script_a : List Request
-script_a = Begin 70 ∷ Answer 0 0 1 ∷ Answer 0 1 0 ∷ Answer 0 2 1 ∷ []
+script_a = Begin 70 ∷ Answer 0 0 1 None ∷ Answer 0 1 0 None ∷ Answer 0 2 1 None ∷ []
 
 replies_a : List Reply
 replies_a = reply.At 0 (Waiting 0 2 true) true ∷ reply.At 0 (Waiting 1 4 true) false ∷ reply.At 0 (Waiting 2 1 true) false ∷ reply.At 0 Complete false ∷ []
@@ -201,39 +201,39 @@ begin_70 = record {
   reply = refl;
 }
 
-answer_0 : Does bank_a plan_a served_a (Answer 0 0 1) served_1 (reply.At 0 (Waiting 1 4 true) false)
+answer_0 : Does bank_a plan_a served_a (Answer 0 0 1 None) served_1 (reply.At 0 (Waiting 1 4 true) false)
 unfolding bank_a item_a plan_of_rows plan_a eligible_a started_a served_a answered_a served_1
 answer_0 = record {
   session = 0;
   fresh = false;
   begun = answered_a;
-  leads = by_answer 0 0 1 answered_a (RecordsAnswer.is_new refl may_answer_0);
+  leads = by_answer 0 0 1 None answered_a (RecordsAnswer.is_new refl may_answer_0);
   advances = at_once (Served 0 1 4 (one_word 22) true 1) firm_1;
   at = Waiting 1 4 true;
   stands = refl;
   reply = refl;
 }
 
-answer_1 : Does bank_a plan_a served_1 (Answer 0 1 0) served_2 (reply.At 0 (Waiting 2 1 true) false)
+answer_1 : Does bank_a plan_a served_1 (Answer 0 1 0 None) served_2 (reply.At 0 (Waiting 2 1 true) false)
 unfolding bank_a item_a plan_of_rows plan_a eligible_a started_a served_a answered_a served_1 answered_1 served_2
 answer_1 = record {
   session = 0;
   fresh = false;
   begun = answered_1;
-  leads = by_answer 0 1 0 answered_1 (RecordsAnswer.is_new refl may_answer_1);
+  leads = by_answer 0 1 0 None answered_1 (RecordsAnswer.is_new refl may_answer_1);
   advances = at_once (Served 0 2 1 (one_word 22) true 1) firm_2;
   at = Waiting 2 1 true;
   stands = refl;
   reply = refl;
 }
 
-answer_2 : Does bank_a plan_a served_2 (Answer 0 2 1) answered_2 (reply.At 0 Complete false)
+answer_2 : Does bank_a plan_a served_2 (Answer 0 2 1 None) answered_2 (reply.At 0 Complete false)
 unfolding bank_a item_a plan_of_rows plan_a eligible_a started_a served_a answered_a served_1 answered_1 served_2 answered_2
 answer_2 = record {
   session = 0;
   fresh = false;
   begun = answered_2;
-  leads = by_answer 0 2 1 answered_2 (RecordsAnswer.is_new refl may_answer_2);
+  leads = by_answer 0 2 1 None answered_2 (RecordsAnswer.is_new refl may_answer_2);
   advances = refl;
   at = Complete;
   stands = refl;
@@ -397,9 +397,9 @@ reply_at step item fresh = reply.At 0 (Waiting step item true) fresh
 done_a : AreDone bank_a plan_a [] script_a answered_2 replies_a
 unfolding script_a replies_a reply_at
 done_a =
-    one_more (Begin 70 ∷ Answer 0 0 1 ∷ Answer 0 1 0 ∷ []) served_2 (reply_at 0 2 true ∷ reply_at 1 4 false ∷ reply_at 2 1 false ∷ []) (Answer 0 2 1) answered_2 (reply.At 0 Complete false)
-    (one_more (Begin 70 ∷ Answer 0 0 1 ∷ []) served_1 (reply_at 0 2 true ∷ reply_at 1 4 false ∷ []) (Answer 0 1 0) served_2 (reply_at 2 1 false)
-    (one_more (Begin 70 ∷ []) served_a (reply_at 0 2 true ∷ []) (Answer 0 0 1) served_1 (reply_at 1 4 false)
+    one_more (Begin 70 ∷ Answer 0 0 1 None ∷ Answer 0 1 0 None ∷ []) served_2 (reply_at 0 2 true ∷ reply_at 1 4 false ∷ reply_at 2 1 false ∷ []) (Answer 0 2 1 None) answered_2 (reply.At 0 Complete false)
+    (one_more (Begin 70 ∷ Answer 0 0 1 None ∷ []) served_1 (reply_at 0 2 true ∷ reply_at 1 4 false ∷ []) (Answer 0 1 0 None) served_2 (reply_at 2 1 false)
+    (one_more (Begin 70 ∷ []) served_a (reply_at 0 2 true ∷ []) (Answer 0 0 1 None) served_1 (reply_at 1 4 false)
     (one_more [] [] [] (Begin 70) served_a (reply_at 0 2 true) none begin_70 refl) answer_0 refl) answer_1 refl) answer_2 refl
 
 -- what is best is no worse than the base and the form before

@@ -31,7 +31,7 @@ leads_legal b plan H _ session fresh G run (by_begin_without booking items _ _ _
     begun : (fresh : Bool) (G : List Entry) → BeginsWithout b plan H booking items session fresh G → LegalRun b plan G
     begun _ _ (BeginsWithout.is_there _ held) = run
     begun _ _ (BeginsWithout.is_new _ eligible list held same legal) = more H _ run legal
-leads_legal b plan H _ session fresh G run (by_answer _ step response _ records) = recorded_so G records
+leads_legal b plan H _ session fresh G run (by_answer _ step response _ _ records) = recorded_so G records
   where
     recorded_so : (G : List Entry) → RecordsAnswer b plan H session step response G → LegalRun b plan G
     recorded_so _ (RecordsAnswer.is_there held) = run
@@ -55,8 +55,8 @@ unrefused_legal : (b : Tables) (plan : Plan) (H : List Entry) (request : Request
 unrefused_legal b plan H (Begin booking) K reply run is = served_legal b plan H (Begin booking) K reply run is
 unrefused_legal b plan H (BeginWithout booking items) K reply run (inl is) = served_legal b plan H (BeginWithout booking items) K reply run is
 unrefused_legal b plan H (BeginWithout booking items) K reply run (inr is) = subst (λ (G : List Entry). LegalRun b plan G) (sym is.same) run
-unrefused_legal b plan H (Answer session step response) K reply run is = served_legal b plan H (Answer session step response) K reply run is
-unrefused_legal b plan H (Close session) K reply run is = subst (λ (G : List Entry). LegalRun b plan G) (sym is.closed) (more H (Closed session) run is.legal)
+unrefused_legal b plan H (Answer session step response booking) K reply run is = served_legal b plan H (Answer session step response booking) K reply run is
+unrefused_legal b plan H (Close session booking) K reply run is = subst (λ (G : List Entry). LegalRun b plan G) (sym is.closed) (more H (Closed session) run is.legal)
 unrefused_legal b plan H (Look session) K reply run is = served_legal b plan H (Look session) K reply run is
 unrefused_legal b plan H Exposure K reply run is = subst (λ (G : List Entry). LegalRun b plan G) (sym is.same) run
 

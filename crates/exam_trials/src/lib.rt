@@ -8,6 +8,8 @@ mod bands;
 #[cfg(test)]
 mod bank_l;
 #[cfg(test)]
+mod bookings;
+#[cfg(test)]
 mod doors;
 #[cfg(test)]
 mod drill_lines;

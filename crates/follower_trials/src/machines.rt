@@ -62,16 +62,19 @@ const REQUESTS: [Request; 4] = [
         session: 0,
         step: 0,
         response: 1,
+        booking: None,
     },
     Request::Answer {
         session: 0,
         step: 1,
         response: 0,
+        booking: None,
     },
     Request::Answer {
         session: 0,
         step: 2,
         response: 1,
+        booking: None,
     },
 ];
 

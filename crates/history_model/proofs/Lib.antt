@@ -36,4 +36,5 @@ pub mod Bounds
 pub mod LastForms
 pub mod BandLaws
 pub mod AheadLaws
+pub mod NamedSessions
 pub mod RequestLists

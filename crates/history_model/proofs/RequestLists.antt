@@ -161,7 +161,7 @@ has_led b plan H booking items asked s fresh G run none is (by_begin_without k x
     let two : xs ≡ items = cc in
     let here = has_begun b plan H k xs n flag K run none begins in
     subst (λ (m : ℕ). Has m items n K) one (subst (λ (ys : List ℕ). Has k ys n K) two here)
-has_led b plan H booking items asked s fresh G run none is (by_answer n step response K records) = absurd cc
+has_led b plan H booking items asked s fresh G run none is (by_answer n step response named K records) = absurd cc
 has_led b plan H booking items asked s fresh G run none is (by_look n) = absurd cc
 
 pub place_has_list : PlaceHasList

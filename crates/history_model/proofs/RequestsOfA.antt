@@ -23,16 +23,16 @@ use Rattle.history_model.proofs.JudgingLaws.{may_is_legal}
 use Rattle.history_model.proofs.RecordsOfA.{may_start, may_serve_0, may_answer_0, may_serve_1, may_answer_2}
 
 -- ---- two sessions, the second closed, and the first waiting for its second answer
-answers_there : (refusal_of bank_a plan_a closed_a (Answer 0 0 1) ≡ None) × (refusal_of bank_a plan_a closed_a (Answer 0 0 0) ≡ Some (refusal.Other 1)) × (refusal_of bank_a plan_a closed_a (Answer 0 2 1) ≡ Some (refusal.WrongStep 1)) × (refusal_of bank_a plan_a closed_a (Answer 0 1 2) ≡ Some (refusal.BadResponse 2)) × (refusal_of bank_a plan_a closed_a (Answer 0 1 1) ≡ None)
+answers_there : (refusal_of bank_a plan_a closed_a (Answer 0 0 1 None) ≡ None) × (refusal_of bank_a plan_a closed_a (Answer 0 0 0 None) ≡ Some (refusal.Other 1)) × (refusal_of bank_a plan_a closed_a (Answer 0 2 1 None) ≡ Some (refusal.WrongStep 1)) × (refusal_of bank_a plan_a closed_a (Answer 0 1 2 None) ≡ Some (refusal.BadResponse 2)) × (refusal_of bank_a plan_a closed_a (Answer 0 1 1 None) ≡ None)
 unfolding bank_a item_a plan_of_rows plan_a two_a closed_a
 answers_there = (refl, refl, refl, refl, refl)
 
-others_there : (refusal_of bank_a plan_a closed_a (Begin 1) ≡ None) × (refusal_of bank_a plan_a closed_a (Begin 3) ≡ None) × (refusal_of bank_a plan_a closed_a (Answer 9 0 0) ≡ Some (refusal.NoSession 2)) × (refusal_of bank_a plan_a closed_a (Answer 1 0 0) ≡ Some (refusal.IsClosed IsClosed)) × (refusal_of bank_a plan_a closed_a (Close 1) ≡ Some (refusal.IsClosed IsClosed)) × (refusal_of bank_a plan_a closed_a (Close 0) ≡ None) × (refusal_of bank_a plan_a closed_a (Look 2) ≡ Some (refusal.NoSession 2)) × (refusal_of bank_a plan_a closed_a (Look 1) ≡ None) × (refusal_of bank_a plan_a closed_a Exposure ≡ None)
+others_there : (refusal_of bank_a plan_a closed_a (Begin 1) ≡ None) × (refusal_of bank_a plan_a closed_a (Begin 3) ≡ None) × (refusal_of bank_a plan_a closed_a (Answer 9 0 0 None) ≡ Some (refusal.NoSession 2)) × (refusal_of bank_a plan_a closed_a (Answer 1 0 0 None) ≡ Some (refusal.IsClosed IsClosed)) × (refusal_of bank_a plan_a closed_a (Close 1 None) ≡ Some (refusal.IsClosed IsClosed)) × (refusal_of bank_a plan_a closed_a (Close 0 None) ≡ None) × (refusal_of bank_a plan_a closed_a (Look 2) ≡ Some (refusal.NoSession 2)) × (refusal_of bank_a plan_a closed_a (Look 1) ≡ None) × (refusal_of bank_a plan_a closed_a Exposure ≡ None)
 unfolding bank_a item_a plan_of_rows plan_a two_a closed_a
 others_there = (refl, refl, refl, refl, refl, refl, refl, refl, refl)
 
 -- a session that waits for an item, or is complete, takes no answer but one that is recorded
-ends_there : (refusal_of bank_a plan_a started_a (Answer 0 0 1) ≡ Some (refusal.WrongStep 0)) × (refusal_of bank_a plan_a answered_2 (Answer 0 1 0) ≡ None) × (refusal_of bank_a plan_a answered_2 (Answer 0 3 0) ≡ Some (refusal.IsClosed Complete)) × (refusal_of bank_a plan_a answered_2 (Close 0) ≡ Some (refusal.IsClosed Complete))
+ends_there : (refusal_of bank_a plan_a started_a (Answer 0 0 1 None) ≡ Some (refusal.WrongStep 0)) × (refusal_of bank_a plan_a answered_2 (Answer 0 1 0 None) ≡ None) × (refusal_of bank_a plan_a answered_2 (Answer 0 3 0 None) ≡ Some (refusal.IsClosed Complete)) × (refusal_of bank_a plan_a answered_2 (Close 0 None) ≡ Some (refusal.IsClosed Complete))
 unfolding bank_a item_a plan_of_rows plan_a started_a served_a answered_a served_1 answered_1 served_2 answered_2
 ends_there = (refl, refl, refl, refl)
 
@@ -72,14 +72,14 @@ firm_1 =
     let legal = may_is_legal bank_a plan_a answered_a (Served 0 1 4 (one_word 22) true 1) (Some (one_bound ((0, 1536) ∷ []))) may_serve_1 in
     record { step = 1; item = 4; form = one_word 22; proved = true; nodes = 1; is = refl; legal = legal; problem = legal.problem; is_problem = legal.is_problem; firm = firm_of legal.problem (has (one_word 22)) (legal.best refl) }
 
-answer_0 : Does bank_a plan_a served_a (Answer 0 0 1) served_1 (reply.At 0 (Waiting 1 4 true) false)
+answer_0 : Does bank_a plan_a served_a (Answer 0 0 1 None) served_1 (reply.At 0 (Waiting 1 4 true) false)
 unfolding bank_a item_a plan_of_rows plan_a started_a served_a answered_a served_1
 answer_0 =
     record {
       session = 0;
       fresh = false;
       begun = answered_a;
-      leads = by_answer 0 0 1 answered_a (RecordsAnswer.is_new refl may_answer_0);
+      leads = by_answer 0 0 1 None answered_a (RecordsAnswer.is_new refl may_answer_0);
       advances = at_once (Served 0 1 4 (one_word 22) true 1) firm_1;
       at = Waiting 1 4 true;
       stands = refl;
@@ -87,28 +87,28 @@ answer_0 =
     }
 
 -- the last answer, and one that is recorded, are followed by no item
-answer_2 : Does bank_a plan_a served_2 (Answer 0 2 1) answered_2 (reply.At 0 Complete false)
+answer_2 : Does bank_a plan_a served_2 (Answer 0 2 1 None) answered_2 (reply.At 0 Complete false)
 unfolding bank_a item_a plan_of_rows plan_a started_a served_a answered_a served_1 answered_1 served_2 answered_2
 answer_2 =
     record {
       session = 0;
       fresh = false;
       begun = answered_2;
-      leads = by_answer 0 2 1 answered_2 (RecordsAnswer.is_new refl may_answer_2);
+      leads = by_answer 0 2 1 None answered_2 (RecordsAnswer.is_new refl may_answer_2);
       advances = refl;
       at = Complete;
       stands = refl;
       reply = refl;
     }
 
-answer_again : Does bank_a plan_a closed_a (Answer 0 0 1) closed_a (reply.At 0 (Waiting 1 4 true) false)
+answer_again : Does bank_a plan_a closed_a (Answer 0 0 1 None) closed_a (reply.At 0 (Waiting 1 4 true) false)
 unfolding bank_a item_a plan_of_rows plan_a two_a closed_a
 answer_again =
     record {
       session = 0;
       fresh = false;
       begun = closed_a;
-      leads = by_answer 0 0 1 closed_a (RecordsAnswer.is_there refl);
+      leads = by_answer 0 0 1 None closed_a (RecordsAnswer.is_there refl);
       advances = refl;
       at = Waiting 1 4 true;
       stands = refl;
@@ -116,11 +116,11 @@ answer_again =
     }
 
 -- closing a session that waits for an answer, and closing it again
-close_1 : Does bank_a plan_a two_a (Close 1) closed_a (reply.At 1 IsClosed false)
+close_1 : Does bank_a plan_a two_a (Close 1 None) closed_a (reply.At 1 IsClosed false)
 unfolding plan_of_rows plan_a two_a closed_a
 close_1 = record { legal = record { at = Waiting 0 2 true; stands = refl; goes_on = tt }; closed = refl; at = IsClosed; stands = refl; reply = refl }
 
-close_again : Does bank_a plan_a closed_a (Close 1) closed_a (reply.Refused (refusal.IsClosed IsClosed))
+close_again : Does bank_a plan_a closed_a (Close 1 None) closed_a (reply.Refused (refusal.IsClosed IsClosed))
 unfolding plan_of_rows plan_a two_a closed_a
 close_again = (refl, refl)
 

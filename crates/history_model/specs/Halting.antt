@@ -1,5 +1,5 @@
 -- Where a request may stop before its end, on one thread.
-use Rattle.std.specs.Prelude.{◌≡◌, ℕ, Bool, List, [], ◌∷◌, ◌++◌, Some}
+use Rattle.std.specs.Prelude.{◌≡◌, ℕ, Bool, List, [], ◌∷◌, ◌++◌, Option, Some}
 use Rattle.bank_tables.specs.Tables.{Tables}
 use Rattle.form_model.specs.Plan.{Plan}
 use Rattle.history_model.specs.declared.entry.Entry.{Entry}
@@ -33,7 +33,7 @@ pub data IsNextOf (b : Tables) (plan : Plan) (H : List Entry) (request : Request
     → Entry → Type 0 where
   first : (session : ℕ) (fresh : Bool) (entry : Entry)
       → Leads b plan H request session fresh (H ++ entry ∷ []) → IsNextOf b plan H request H entry
-  closing : (session : ℕ) → request ≡ Close session → Legal b plan H (Closed session)
+  closing : (session : ℕ) (booking : Option ℕ) → request ≡ Close session booking → Legal b plan H (Closed session)
       → IsNextOf b plan H request H (Closed session)
   aside : (session : ℕ) (fresh : Bool) (G : List Entry) (entry : Entry)
       → Leads b plan H request session fresh G → IsSettingAside b plan G session entry

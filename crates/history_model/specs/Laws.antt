@@ -1,5 +1,5 @@
 -- What the definitions imply, as the public laws state it.
-use Rattle.std.specs.Prelude.{◌≡◌, ◌↔◌, ℕ, ◌+◌, ◌<◌, ◌≤◌, Bool, true, false, ◌||◌, ◌==◌, List, get_or, [], ◌∷◌, ◌++◌, length, slice_get, nat_le, is_some, IsTrue, IsFalse, Option, Some, None, if◌then◌else◌}
+use Rattle.std.specs.Prelude.{◌≡◌, ◌↔◌, ℕ, ◌+◌, ◌<◌, ◌≤◌, Bool, true, false, ◌||◌, ◌==◌, List, get_or, [], ◌∷◌, ◌++◌, length, slice_get, nat_le, is_some, IsTrue, IsFalse, Contains, Option, Some, None, if◌then◌else◌}
 use Rattle.std.specs.Option.{option_map}
 use Rattle.bank_tables.specs.Items.{Set, has, AreWords}
 use Rattle.bank_tables.specs.Tables.{Tables}
@@ -11,6 +11,7 @@ use Rattle.form_model.specs.Forms.{Meets, Form}
 use Rattle.certificate_model.specs.ProofTrees.{ProofTree}
 use Rattle.serving_model.specs.Seats.{is_shown, eligible_in, is_aside_in, band_at, visits, eight, IsSeat, IsPending}
 use Rattle.history_model.specs.declared.entry.Cause.{Cause}
+use Rattle.history_model.specs.declared.entry.Bands.{Bands}
 use Rattle.history_model.specs.declared.entry.Entry.{Entry}
 use Rattle.history_model.specs.declared.entry.Without.{Without}
 use Rattle.history_model.specs.declared.entry.Entry.TheVariants.{Started, SetAside, Served, Answered, Closed}
@@ -19,11 +20,11 @@ use Rattle.history_model.specs.declared.place.Place.{Place}
 use Rattle.history_model.specs.declared.place.Place.TheVariants.{Pending, Waiting, Complete, Closed as IsClosed}
 use Rattle.history_model.specs.declared.illegal.Illegal.{Illegal}
 use Rattle.history_model.specs.declared.request.Reply.TheVariants.{At}
-use Rattle.history_model.specs.declared.request.Request.TheVariants.{BeginWithout}
+use Rattle.history_model.specs.declared.request.Request.TheVariants.{BeginWithout, Answer, Close}
 use Rattle.history_model.specs.Entries.{Serving, StepAnswer, sessions, is_started, holder, list_of, servings, step_answers, seat_of}
 use Rattle.history_model.specs.Places.{place}
 use Rattle.history_model.specs.Counts.{counts, shows, opens, band_counts, shows_in, opens_in, visited, finished}
-use Rattle.history_model.specs.Refusals.{recorded, is_list, has_list}
+use Rattle.history_model.specs.Refusals.{recorded, is_list, has_list, refusal_of}
 use Rattle.history_model.specs.Requests.{Does}
 use Rattle.history_model.specs.SessionProblems.{IsProblemOf, problem_once_aside, fallback}
 use Rattle.history_model.specs.Legality.{Legal, LegalRun}
@@ -328,6 +329,18 @@ PlaceHasList =
     (session : ℕ) (at : Place) (fresh : Bool) → LegalRun b plan H
     → Does b plan H (BeginWithout booking items) H2 (At session at fresh)
     → (holder H2 booking ≡ Some session) × IsTrue (has_list items (list_of H2 session))
+
+-- an answer or a closing that names a booking, and is not refused, is of the session that was started for
+-- this booking
+abbrev pub NamedHasBooking : Type 0
+NamedHasBooking = (b : Tables) (plan : Plan) (H : List Entry) (session booking : ℕ)
+    → ((step response : ℕ)
+    → refusal_of b plan H (Answer session step response (Some booking)) ≡ None
+    → (eligible : Bands) × (without : Option Without)
+    × Contains H (Started session booking eligible without))
+    × (refusal_of b plan H (Close session (Some booking)) ≡ None
+    → (eligible : Bands) × (without : Option Without)
+    × Contains H (Started session booking eligible without))
 
 -- ---- a longer history
 -- a booking keeps its session, a step its response, a closed session its end, and no session goes

@@ -10,7 +10,7 @@ use Rattle.history_model.specs.declared.entry.Without.{Without}
 use Rattle.history_model.specs.declared.place.Place.{Place}
 use Rattle.history_model.specs.declared.place.Place.TheVariants.{Pending, Waiting}
 use Rattle.history_model.specs.declared.refusal.Refusal.{Refusal}
-use Rattle.history_model.specs.declared.refusal.Refusal.TheVariants.{NoSession, WrongStep, Other, BadResponse, IsClosed, OtherList, NoItem, SessionsFull}
+use Rattle.history_model.specs.declared.refusal.Refusal.TheVariants.{NoSession, WrongStep, Other, BadResponse, IsClosed, OtherList, NoItem, SessionsFull, OtherBooking}
 use Rattle.history_model.specs.declared.request.Request.{Request}
 use Rattle.history_model.specs.declared.request.Request.TheVariants.{Begin, BeginWithout, Answer, Close, Look, Exposure}
 use Rattle.history_model.specs.Entries.{sessions, holder, list_of, responses}
@@ -74,13 +74,29 @@ abbrev pub in_session : List Entry → Option Place → (Place → Option Refusa
 in_session H None refusal_where = Some (NoSession (sessions H))
 in_session H (Some at) refusal_where = refusal_where at
 
+-- it is this session
+abbrev pub is_session : ℕ → Option ℕ → Bool
+is_session session None = false
+is_session session (Some other) = other == session
+
+-- the session is not that of the booking that the request names, if it names one
+abbrev pub is_of_another : List Entry → ℕ → Option ℕ → Bool
+is_of_another H session None = false
+is_of_another H session (Some booking) = not (is_session session (holder H booking))
+
+-- the session is of another booking; or why the request is refused there
+abbrev pub unless_other : Bool → Option Refusal → Option Refusal
+unless_other other why = if other then Some OtherBooking else why
+
 -- the first reason why a request is refused
 abbrev pub refusal_of : Tables → Plan → List Entry → Request → Option Refusal
 refusal_of b plan H (Begin booking) = refusal_of_new plan H (holder H booking)
 refusal_of b plan H (BeginWithout booking items) =
     refusal_of_list b plan H items (holder H booking)
-refusal_of b plan H (Answer session step response) = in_session H (place plan H session)
-    (λ at. refusal_of_answer b step response at (recorded H session step))
-refusal_of b plan H (Close session) = in_session H (place plan H session) refusal_of_closing
+refusal_of b plan H (Answer session step response booking) = in_session H (place plan H session)
+    (λ at. unless_other (is_of_another H session booking)
+    (refusal_of_answer b step response at (recorded H session step)))
+refusal_of b plan H (Close session booking) = in_session H (place plan H session)
+    (λ at. unless_other (is_of_another H session booking) (refusal_of_closing at))
 refusal_of b plan H (Look session) = in_session H (place plan H session) (λ at. None)
 refusal_of b plan H Exposure = None

@@ -64,9 +64,9 @@ pub data Leads (b : Tables) (plan : Plan) (H : List Entry) : Request → ℕ →
   by_begin_without : (booking : ℕ) (items : List ℕ) (session : ℕ) (fresh : Bool) (G : List Entry)
       → BeginsWithout b plan H booking items session fresh G
       → Leads b plan H (request.BeginWithout booking items) session fresh G
-  by_answer : (session step response : ℕ) (G : List Entry)
+  by_answer : (session step response : ℕ) (booking : Option ℕ) (G : List Entry)
       → RecordsAnswer b plan H session step response G
-      → Leads b plan H (request.Answer session step response) session false G
+      → Leads b plan H (request.Answer session step response booking) session false G
   by_look : (session : ℕ) → Leads b plan H (request.Look session) session false H
 
 -- ---- the item of a session that waits for one
@@ -158,7 +158,7 @@ pub record IsExposedBy (b : Tables) (plan : Plan) (H H2 : List Entry)
   pub reply : answer ≡ reply.Exposure exposure
 
 abbrev pub DoesUnrefused : Tables → Plan → List Entry → Request → List Entry → Reply → Type 0
-DoesUnrefused b plan H (request.Close session) H2 answer = IsClosedBy b plan H session H2 answer
+DoesUnrefused b plan H (request.Close session booking) H2 answer = IsClosedBy b plan H session H2 answer
 DoesUnrefused b plan H request.Exposure H2 answer = IsExposedBy b plan H H2 answer
 DoesUnrefused b plan H (request.BeginWithout booking items) H2 answer =
     IsServedBy b plan H (request.BeginWithout booking items) H2 answer

@@ -1,11 +1,12 @@
 -- The words for refusals.
 use Rattle.std.specs.Prelude.{ℕ, List, codes}
 use Rattle.history_model.specs.declared.refusal.Refusal.{Refusal}
-use Rattle.history_model.specs.declared.refusal.Refusal.TheVariants.{NoSession, WrongStep, Other, BadResponse, IsClosed, Stale, OtherList, NoItem, SessionsFull, NoForm, NoneFound, JournalFull, Disk, Memory}
+use Rattle.history_model.specs.declared.refusal.Refusal.TheVariants.{NoSession, WrongStep, Other, BadResponse, IsClosed, Stale, OtherList, NoItem, SessionsFull, NoForm, NoneFound, JournalFull, Disk, Memory, OtherBooking}
 
 -- the word for a refusal, in replies of each kind
 abbrev pub refusal_word : Refusal → List ℕ
 refusal_word (NoSession count) = codes "no-session"
+refusal_word OtherBooking = codes "other-booking"
 refusal_word (WrongStep step) = codes "wrong-step"
 refusal_word (Other response) = codes "other"
 refusal_word (BadResponse categories) = codes "bad-response"

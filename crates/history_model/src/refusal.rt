@@ -11,6 +11,8 @@ use std::alloc::AllocError;
 pub enum Refusal {
     /// There is no such session; the number of sessions.
     NoSession(u32),
+    /// The session is of another booking than the one that the request names.
+    OtherBooking,
     /// The session doesn't wait for an answer at this step; the step at which it is.
     WrongStep(u16),
     /// The step was answered with another response; that response.

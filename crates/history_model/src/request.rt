@@ -21,9 +21,15 @@ pub enum Request {
         session: u32,
         step: u16,
         response: u8,
+        /// The booking that the session must have, if it is named.
+        booking: Option<u64>,
     },
     /// A session is closed before its end.
-    Close(u32),
+    Close {
+        session: u32,
+        /// The booking that the session must have, if it is named.
+        booking: Option<u64>,
+    },
     /// The place of a session.
     Look(u32),
     /// The exposure counts.

@@ -12,6 +12,7 @@ pub fn refusal_word(refusal: Refusal) -> &'static str
 {
     match refusal {
         Refusal::NoSession(_) => "no-session",
+        Refusal::OtherBooking => "other-booking",
         Refusal::WrongStep(_) => "wrong-step",
         Refusal::Other(_) => "other",
         Refusal::BadResponse(_) => "bad-response",

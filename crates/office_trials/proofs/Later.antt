@@ -4,7 +4,7 @@ use Rattle.bank_tables.specs.Tables.{Tables}
 use Rattle.form_model.specs.Plan.{Plan}
 use Rattle.history_model.specs.declared.entry.Entry.{Entry}
 use Rattle.history_model.specs.declared.refusal.Refusal.{Refusal}
-use Rattle.history_model.specs.declared.refusal.Refusal.TheVariants.{NoSession, WrongStep, Other, BadResponse, IsClosed, Stale, OtherList, NoItem, SessionsFull, NoForm, NoneFound, JournalFull, Disk, Memory}
+use Rattle.history_model.specs.declared.refusal.Refusal.TheVariants.{NoSession, OtherBooking, WrongStep, Other, BadResponse, IsClosed, Stale, OtherList, NoItem, SessionsFull, NoForm, NoneFound, JournalFull, Disk, Memory}
 use Rattle.branch_bound.specs.Assembled.{Assembly}
 use Rattle.exam_office.specs.declared.mark.Mark.{Mark}
 use Rattle.exam_office.specs.declared.mark.Mark.TheVariants.{Fault}
@@ -28,6 +28,7 @@ module _ {D : Type 0} (old new : Running D) (a : Assembly) where
   not_mended Disk why m = faulted old.marks why.0 why.2.mark m
   not_mended (JournalFull size) why m = absurd why
   not_mended (NoSession count) why m = absurd why
+  not_mended OtherBooking why m = absurd why
   not_mended (WrongStep k) why m = absurd why
   not_mended (Other k) why m = absurd why
   not_mended (BadResponse k) why m = absurd why
@@ -44,6 +45,7 @@ module _ {D : Type 0} (old new : Running D) (a : Assembly) where
   not_written M entry Disk why m = faulted M entry why.mark m
   not_written M entry (JournalFull size) why m = subst May (sym (ap history why.0.marks_are)) m
   not_written M entry (NoSession count) why m = absurd why
+  not_written M entry OtherBooking why m = absurd why
   not_written M entry (WrongStep k) why m = absurd why
   not_written M entry (Other k) why m = absurd why
   not_written M entry (BadResponse k) why m = absurd why

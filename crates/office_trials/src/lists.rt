@@ -42,7 +42,10 @@ fn request_of(ask: &Ask) -> Request {
             booking,
             items: set_of(items),
         },
-        Ask::Close(session) => Request::Close(session),
+        Ask::Close(session) => Request::Close {
+            session,
+            booking: None,
+        },
     }
 }
 

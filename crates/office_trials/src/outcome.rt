@@ -47,7 +47,11 @@ pub(crate) enum Call {
     ServeLate(u32),
     /// The response to a step of a session.
     Answer(u32, u16, u8),
+    /// The same, with the booking that the session must have.
+    AnswerFor(u32, u16, u8, u64),
     Close(u32),
+    /// The same, with the booking that the session must have.
+    CloseFor(u32, u64),
     Look(u32),
     /// The vector that the search for a session's next form may begin with.
     Warm(u32),
@@ -225,8 +229,14 @@ fn place_by<R: Abort, D: Disk>(
         Call::Serve(session) => serve(rt, alloc, office, session),
         Call::ServeAgain(session) => serve_again(rt, alloc, office, session),
         Call::ServeLate(session) => serve_late(rt, alloc, office, session),
-        Call::Answer(session, step, response) => office.answer(alloc, session, step, response),
-        Call::Close(session) => office.close(alloc, session),
+        Call::Answer(session, step, response) => {
+            office.answer(alloc, session, step, response, None)
+        }
+        Call::AnswerFor(session, step, response, booking) => {
+            office.answer(alloc, session, step, response, Some(booking))
+        }
+        Call::Close(session) => office.close(alloc, session, None),
+        Call::CloseFor(session, booking) => office.close(alloc, session, Some(booking)),
         Call::Look(session) => office.look(session),
         _ => panic!(rt; "another call"),
     }

@@ -42,6 +42,32 @@ const CALLS_AFTER: [Step; 13] = [
     (Call::Look(1), Reply::At(Place::Closed)),
 ];
 
+const OTHER_BOOKING: Reply = Reply::Refused(Refusal::OtherBooking);
+
+/// Calls that name a booking, after the two sessions, and what they give. Session 0 is of booking 1,
+/// session 1 of booking 2, and booking 9 has no session. The first two would add an entry if the
+/// booking were not compared. The others have a second fault, or repeat an answer.
+const NAMED_AFTER: [Step; 15] = [
+    (Call::AnswerFor(0, 1, 0, 2), OTHER_BOOKING),
+    (Call::CloseFor(0, 2), OTHER_BOOKING),
+    (Call::AnswerFor(0, 1, 0, 9), OTHER_BOOKING),
+    (Call::CloseFor(0, 9), OTHER_BOOKING),
+    (Call::AnswerFor(0, 0, 1, 2), OTHER_BOOKING),
+    (Call::AnswerFor(0, 0, 0, 2), OTHER_BOOKING),
+    (Call::AnswerFor(0, 2, 1, 2), OTHER_BOOKING),
+    (Call::AnswerFor(0, 1, 2, 2), OTHER_BOOKING),
+    (Call::AnswerFor(1, 0, 0, 1), OTHER_BOOKING),
+    (Call::CloseFor(1, 1), OTHER_BOOKING),
+    (Call::AnswerFor(9, 0, 0, 1), NO_SESSION),
+    (Call::CloseFor(2, 1), NO_SESSION),
+    (Call::AnswerFor(0, 0, 1, 1), Reply::At(SECOND)),
+    (
+        Call::AnswerFor(0, 2, 1, 1),
+        Reply::Refused(Refusal::WrongStep(1)),
+    ),
+    (Call::CloseFor(1, 2), IS_CLOSED),
+];
+
 /// Over this file the calls leave the history, the file and the count of the disk's calls as the
 /// first ones do. The history has so many entries then.
 fn expect_no_more<R: Abort>(
@@ -63,6 +89,37 @@ fn calls_that_add_nothing(rt: HostRuntime) {
         let steps: [&[Step]; 2] = [&TWO_SESSIONS, &[*step]];
         expect_no_more(&rt, rt.alloc(), &[], (&[&TWO_SESSIONS], &steps), 7);
     }
+}
+
+#[test]
+fn calls_with_a_booking_that_add_nothing(rt: HostRuntime) {
+    for step in &NAMED_AFTER {
+        let steps: [&[Step]; 2] = [&TWO_SESSIONS, &[*step]];
+        expect_no_more(&rt, rt.alloc(), &[], (&[&TWO_SESSIONS], &steps), 7);
+    }
+}
+
+/// The answers of the worked session with its booking.
+const NAMED_SESSION: [Step; 7] = [
+    (Call::Begin(70), BEGUN),
+    (Call::Serve(0), Reply::At(FIRST)),
+    (Call::AnswerFor(0, 0, 1, 70), Reply::At(Place::Pending(1))),
+    (Call::Serve(0), Reply::At(SECOND)),
+    (Call::AnswerFor(0, 1, 0, 70), Reply::At(Place::Pending(2))),
+    (Call::Serve(0), Reply::At(THIRD)),
+    (Call::AnswerFor(0, 2, 1, 70), Reply::At(Place::Complete)),
+];
+
+const CLOSED: [Step; 1] = [(Call::Close(0), Reply::At(Place::Closed))];
+
+const CLOSED_FOR: [Step; 1] = [(Call::CloseFor(0, 70), Reply::At(Place::Closed))];
+
+/// An answer and a closing with the booking of the session write what they write without it.
+#[test]
+fn calls_with_the_right_booking(rt: HostRuntime) {
+    let alloc = rt.alloc();
+    expect_no_more(&rt, alloc, &[], (&[&SESSION], &[&NAMED_SESSION]), 7);
+    expect_no_more(&rt, alloc, STARTED, (&[&CLOSED], &[&CLOSED_FOR]), 2);
 }
 
 /// The worked session with calls that come too soon, and at the end too late. A session that waits

@@ -82,6 +82,6 @@ pub(crate) fn serve_late<R: Abort, D: Disk>(
     session: u32,
 ) -> Result<Place, Refusal> {
     let assembled = assembled_for(rt, alloc, office, session);
-    let _closed = office.close(alloc, session);
+    let _closed = office.close(alloc, session, None);
     office.commit(alloc, &assembled)
 }

@@ -33,11 +33,11 @@ module _ (made other : Assembly) where
   named = refl
 
   -- another step, another request
-  later : ready_for desk (Answer 3 2 1) ≡ None
+  later : ready_for desk (Answer 3 2 1 None) ≡ None
   unfolding desk key
   later = refl
 
-  asked : ready_for desk (Answer 4 1 0) ≡ Some other
+  asked : ready_for desk (Answer 4 1 0 None) ≡ Some other
   unfolding desk key
   asked = refl
 

@@ -92,12 +92,12 @@ left_at results key = left_by results key (put_for results key)
 
 -- the result that is ready for a request, if that is an answer
 abbrev pub ready_for : List (Key × Ready) → Request → Option Assembly
-ready_for results (Answer session step response) =
+ready_for results (Answer session step response booking) =
     ready_at results (record { session = session; step = step; response = response })
 ready_for results q = None
 
 -- what is left after a request took what is ready for it
 abbrev pub left_for : List (Key × Ready) → Request → List (Key × Ready)
-left_for results (Answer session step response) =
+left_for results (Answer session step response booking) =
     left_at results (record { session = session; step = step; response = response })
 left_for results q = results

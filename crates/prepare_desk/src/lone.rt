@@ -49,6 +49,7 @@ impl<'a> Desk<'a> {
                 session,
                 step,
                 response,
+                booking: _,
             } => {
                 let key = Key {
                     session: *session,

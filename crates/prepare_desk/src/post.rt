@@ -128,6 +128,7 @@ impl<'h, 'a> Post<'h, 'a> {
                 session,
                 step,
                 response,
+                booking: _,
             } => {
                 let key = Key {
                     session: *session,

@@ -21,7 +21,7 @@ enum Short {
 }
 
 /// Replies, each with its line. A reply that a replay never prints has an empty one.
-const REPLIES: [(Short, &str); 22] = [
+const REPLIES: [(Short, &str); 23] = [
     (
         Short::At(
             0,
@@ -86,6 +86,10 @@ const REPLIES: [(Short, &str); 22] = [
     (Short::Refused(Refusal::NoItem(6)), "refused no-item 6\n"),
     (Short::Refused(Refusal::NoForm), "refused no-form\n"),
     (Short::Refused(Refusal::NoneFound), "refused none-found\n"),
+    (
+        Short::Refused(Refusal::OtherBooking),
+        "refused other-booking\n",
+    ),
     (Short::Refused(Refusal::IsClosed(Place::Pending(1))), ""),
     (Short::Refused(Refusal::Stale(Place::Complete, true)), ""),
     (Short::Refused(Refusal::SessionsFull(1)), ""),

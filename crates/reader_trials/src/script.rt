@@ -21,20 +21,29 @@ fn read<R: Abort>(
 }
 
 /// A request of each kind without a list, some with the greatest numbers, some with the least.
-fn each_kind() -> [Request; 6] {
+fn each_kind() -> [Request; 7] {
     [
         Request::Begin(18_446_744_073_709_551_615),
         Request::Answer {
             session: 4_294_967_295,
             step: 65_535,
             response: 255,
+            booking: None,
         },
         Request::Answer {
             session: 0,
             step: 0,
             response: 0,
+            booking: Some(18_446_744_073_709_551_615),
         },
-        Request::Close(10),
+        Request::Close {
+            session: 10,
+            booking: None,
+        },
+        Request::Close {
+            session: 10,
+            booking: Some(0),
+        },
         Request::Look(0),
         Request::Exposure,
     ]
@@ -42,8 +51,8 @@ fn each_kind() -> [Request; 6] {
 
 /// Texts of these requests. The second is the first without the last line feed.
 const SCRIPTS: [&str; 2] = [
-    "begin 18446744073709551615\nanswer 4294967295 65535 255\nanswer 0 0 0\nclose 10\nlook 0\nexposure\n",
-    "begin 18446744073709551615\nanswer 4294967295 65535 255\nanswer 0 0 0\nclose 10\nlook 0\nexposure",
+    "begin 18446744073709551615\nanswer 4294967295 65535 255\nanswer 0 0 0 for 18446744073709551615\nclose 10\nclose 10 for 0\nlook 0\nexposure\n",
+    "begin 18446744073709551615\nanswer 4294967295 65535 255\nanswer 0 0 0 for 18446744073709551615\nclose 10\nclose 10 for 0\nlook 0\nexposure",
 ];
 
 fn expect_requests<R: Abort>(rt: &R, alloc: Global, text: &str, requests: &[Request]) {
@@ -60,7 +69,7 @@ fn each_kind_of_line_is_read(rt: HostRuntime) {
 }
 
 /// Texts, each with the number of the first line that is out of form.
-const OUT_OF_FORM: [(&str, u64); 35] = [
+const OUT_OF_FORM: [(&str, u64); 49] = [
     ("answer 0 0\n", 1),
     ("\n", 1),
     ("exposure\n\n", 2),
@@ -72,6 +81,20 @@ const OUT_OF_FORM: [(&str, u64); 35] = [
     ("answer 0 65536 0\n", 1),
     ("answer 0 0 256\n", 1),
     ("answer 0 0 0 0\n", 1),
+    ("answer 0 0 0 for\n", 1),
+    ("answer 0 0 0 7\n", 1),
+    ("answer 0 0 0 of 7\n", 1),
+    ("answer 0 0 0 for 7 8\n", 1),
+    ("answer 0 0 0 for 07\n", 1),
+    ("answer 0 0 0 for 18446744073709551616\n", 1),
+    ("answer 0 0 0  for 7\n", 1),
+    ("answer 0 0 for 7\n", 1),
+    ("close 0\nclose 0 for\n", 2),
+    ("close 0 7\n", 1),
+    ("close 0 For 7\n", 1),
+    ("close 0 for -7\n", 1),
+    ("look 0 for 7\n", 1),
+    ("begin 1 for 7\n", 1),
     ("close 4294967296\n", 1),
     ("look 4294967296\n", 1),
     ("exposure 1\n", 1),

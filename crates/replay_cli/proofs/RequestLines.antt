@@ -1,12 +1,12 @@
 -- A line is read as a request exactly where it is that request's line.
-use Rattle.std.proofs.Common.{◌≡◌, ◌≢◌, ℕ, zero, suc, ◌^◌, ◌<◌, ◌≤◌, ◌⊎◌, inl, inr, Bool, true, false, ◌&&◌, cond, eqb, List, [], ◌∷◌, ◌++◌, length, get_or, map, Option, Some, None, refl, sym, ap, ap₂, subst, ◌∙◌, arith, codes}
+use Rattle.std.proofs.Common.{◌≡◌, ◌≢◌, ℕ, zero, suc, ◌^◌, ◌<◌, ◌≤◌, ◌⊎◌, inl, inr, Bool, true, false, ◌&&◌, cond, eqb, ltb, List, [], ◌∷◌, ◌++◌, length, get_or, map, drop, Option, Some, None, refl, sym, ap, ap₂, subst, ◌∙◌, arith, codes}
 use Rattle.std.specs.Prelude.{nat_le}
 use Rattle.std.specs.Option.{option_map}
 use Rattle.std.specs.List.{list_all, join_with_byte}
 use Rattle.std.specs.Fmt.{decimal}
 use Rattle.std.specs.Int.{IsInRange as IsWithin}
 use Rattle.std.specs.Str.{bytes_eq}
-use Rattle.std.proofs.lemmas.Bool.{and_parts, cases_Bool, leb-true, ne_eqb, eqb-true}
+use Rattle.std.proofs.lemmas.Bool.{and_parts, cases_Bool, leb-true, ltb-true, ne_eqb, eqb-true}
 use Rattle.std.proofs.lemmas.List.Splits.{join_with_byte-slice_split}
 use Rattle.std.proofs.lemmas.Slice.Eq.{bytes_eq-Decides}
 use Rattle.std.proofs.lemmas.Str.Parse.{digit_at}
@@ -21,8 +21,8 @@ use Rattle.exam_text.proofs.Numerals.{own, number_is, number_again}
 use Rattle.exam_text.proofs.WordLaws.{words_again}
 use Rattle.history_model.specs.declared.request.Request.{Request}
 use Rattle.history_model.specs.declared.request.Request.TheVariants.{Begin, BeginWithout, Answer, Close, Look, Exposure}
-use Rattle.replay_cli.specs.Scripts.{request_words, request_line, IsInRange}
-use Rattle.replay_cli.specs.Reading.{number_after, answer_with, answer_in, exposure_in, request_in, without_in, if_spelled, request_from, request_on}
+use Rattle.replay_cli.specs.Scripts.{booking_words, request_words, request_line, IsNamed, IsInRange}
+use Rattle.replay_cli.specs.Reading.{number_after, booking_in, answer_with, answer_in, close_with, close_in, exposure_in, request_in, without_in, if_spelled, request_from, request_on}
 use Rattle.spec_reader.specs.Sets.{runs_of}
 use Rattle.spec_reader.specs.Canonical.{set_words}
 use Rattle.spec_reader.specs.Grammar.{run}
@@ -71,13 +71,17 @@ runs_lack : (c : ℕ) → c < 45 → (rs : List Run) → ((i : ℕ) → i < leng
 runs_lack c low [] h = tt
 runs_lack c low (r ∷ rs) h = (run_lacks c low r (h 0 (omega arith)), runs_lack c low rs (λ i lt. h (suc i) (omega (arith, lt))))
 
+booking_lacks : (c : ℕ) → c < 45 → (b : Option ℕ) → IsNamed b → NoneHas c (booking_words b)
+booking_lacks c low None h = tt
+booking_lacks c low (Some b) h = (name_lacks c (codes "for") (omega (arith, low)) refl, (number_lacks c b (omega (arith, low)) (omega (arith, h)), tt))
+
 words_lack : (c : ℕ) → c < 45 → (r : Request) → IsInRange r → NoneHas c (request_words r)
 words_lack c low (Begin n) h = (name_lacks c (codes "begin") (omega (arith, low)) refl, (number_lacks c n (omega (arith, low)) (omega (arith, h)), tt))
 words_lack c low (BeginWithout n items) h =
     (name_lacks c (codes "begin") (omega (arith, low)) refl, (number_lacks c n (omega (arith, low)) (omega (arith, h.0)), (name_lacks c (codes "without") (omega (arith, low)) refl, runs_lack c low (runs_of (has items)) (runs_items (has items) h.2).0.each)))
-words_lack c low (Answer s k r) h =
-    (name_lacks c (codes "answer") (omega (arith, low)) refl, (number_lacks c s (omega (arith, low)) (omega (arith, h.0)), (number_lacks c k (omega (arith, low)) (omega (arith, h.1)), (number_lacks c r (omega (arith, low)) (omega (arith, h.2)), tt))))
-words_lack c low (Close s) h = (name_lacks c (codes "close") (omega (arith, low)) refl, (number_lacks c s (omega (arith, low)) (omega (arith, h)), tt))
+words_lack c low (Answer s k r b) h =
+    (name_lacks c (codes "answer") (omega (arith, low)) refl, (number_lacks c s (omega (arith, low)) (omega (arith, h.0)), (number_lacks c k (omega (arith, low)) (omega (arith, h.1)), (number_lacks c r (omega (arith, low)) (omega (arith, h.2)), booking_lacks c low b h.3))))
+words_lack c low (Close s b) h = (name_lacks c (codes "close") (omega (arith, low)) refl, (number_lacks c s (omega (arith, low)) (omega (arith, h.0)), booking_lacks c low b h.1))
 words_lack c low (Look s) h = (name_lacks c (codes "look") (omega (arith, low)) refl, (number_lacks c s (omega (arith, low)) (omega (arith, h)), tt))
 words_lack c low Exposure h = (name_lacks c (codes "exposure") (omega (arith, low)) refl, tt)
 
@@ -86,20 +90,37 @@ words_lack c low Exposure h = (name_lacks c (codes "exposure") (omega (arith, lo
 line_words : (r : Request) → IsInRange r → words_of (request_line r) ≡ request_words r
 line_words (Begin n) h = words_again (codes "begin") (decimal n ∷ []) (words_lack 32 (omega arith) (Begin n) h)
 line_words (BeginWithout n items) h = words_again (codes "begin") (decimal n ∷ codes "without" ∷ set_words (has items)) (words_lack 32 (omega arith) (BeginWithout n items) h)
-line_words (Answer s k r) h = words_again (codes "answer") (decimal s ∷ decimal k ∷ decimal r ∷ []) (words_lack 32 (omega arith) (Answer s k r) h)
-line_words (Close s) h = words_again (codes "close") (decimal s ∷ []) (words_lack 32 (omega arith) (Close s) h)
+line_words (Answer s k r b) h = words_again (codes "answer") (decimal s ∷ decimal k ∷ decimal r ∷ booking_words b) (words_lack 32 (omega arith) (Answer s k r b) h)
+line_words (Close s b) h = words_again (codes "close") (decimal s ∷ booking_words b) (words_lack 32 (omega arith) (Close s b) h)
 line_words (Look s) h = words_again (codes "look") (decimal s ∷ []) (words_lack 32 (omega arith) (Look s) h)
 line_words Exposure h = words_again (codes "exposure") [] (words_lack 32 (omega arith) Exposure h)
 
 spelled : (line : List ℕ) (r : Request) (other : Option Request) → line ≡ request_line r → if_spelled line (Some r) other ≡ Some r
 spelled line r other e = ap (λ (b : Bool). cond b (Some r) None) ((bytes_eq-Decides (request_line r) line).1 (sym e))
 
+booking_read : (b : Option ℕ) → IsNamed b → booking_in (booking_words b) ≡ Some b
+unfolding booking_in number_after
+booking_read None h = refl
+booking_read (Some n) h = rw (number_again 18446744073709551615 n (omega arith) h) refl
+
+answer_read : (s k r : ℕ) (b : Option ℕ) → IsInRange (Answer s k r b) → answer_in (request_words (Answer s k r b)) ≡ Some (Answer s k r b)
+unfolding answer_in
+answer_read s k r None h = rw (number_again 4294967295 s (omega arith) h.0, number_again 65535 k (omega arith) h.1, number_again 255 r (omega arith) h.2, booking_read None h.3) refl
+answer_read s k r (Some b) h = rw (number_again 4294967295 s (omega arith) h.0, number_again 65535 k (omega arith) h.1, number_again 255 r (omega arith) h.2, booking_read (Some b) h.3) refl
+
+close_read : (s : ℕ) (b : Option ℕ) → IsInRange (Close s b) → close_in (request_words (Close s b)) ≡ Some (Close s b)
+unfolding close_in
+close_read s None h = rw (number_again 4294967295 s (omega arith) h.0, booking_read None h.1) refl
+close_read s (Some b) h = rw (number_again 4294967295 s (omega arith) h.0, booking_read (Some b) h.1) refl
+
 words_read : (line : List ℕ) (r : Request) → IsInRange r → line ≡ request_line r → request_from line (request_words r) ≡ Some r
-unfolding request_from without_in request_in number_after answer_in exposure_in
+unfolding request_from without_in request_in number_after answer_in close_in exposure_in
 words_read line (Begin n) h e = rw (number_again 18446744073709551615 n (omega arith) h) refl
 words_read line (BeginWithout n items) h e = rw (without_again n items h) (spelled line (BeginWithout n items) (request_in (request_words (BeginWithout n items))) e)
-words_read line (Answer s k r) h e = rw (number_again 4294967295 s (omega arith) h.0, number_again 65535 k (omega arith) h.1, number_again 255 r (omega arith) h.2) refl
-words_read line (Close s) h e = rw (number_again 4294967295 s (omega arith) h) refl
+words_read line (Answer s k r None) h e = rw (answer_read s k r None h) refl
+words_read line (Answer s k r (Some b)) h e = rw (answer_read s k r (Some b) h) refl
+words_read line (Close s None) h e = rw (close_read s None h) refl
+words_read line (Close s (Some b)) h e = rw (close_read s (Some b) h) refl
 words_read line (Look s) h e = rw (number_again 4294967295 s (omega arith) h) refl
 words_read line Exposure h e = refl
 
@@ -119,16 +140,23 @@ two_words (a ∷ []) h = absurd (omega (arith, h))
 two_words (a ∷ b ∷ []) h = refl
 two_words (a ∷ b ∷ c ∷ ws) h = absurd (omega (arith, h))
 
-four_words : (ws : List (List ℕ)) → length ws ≡ 4 → ws ≡ word ws 0 ∷ word ws 1 ∷ word ws 2 ∷ word ws 3 ∷ []
-four_words [] h = absurd (omega (arith, h))
-four_words (a ∷ []) h = absurd (omega (arith, h))
-four_words (a ∷ b ∷ []) h = absurd (omega (arith, h))
-four_words (a ∷ b ∷ c ∷ []) h = absurd (omega (arith, h))
-four_words (a ∷ b ∷ c ∷ d ∷ []) h = refl
-four_words (a ∷ b ∷ c ∷ d ∷ e ∷ ws) h = absurd (omega (arith, h))
+from_two : (ws : List (List ℕ)) → 1 < length ws → ws ≡ word ws 0 ∷ word ws 1 ∷ drop 2 ws
+from_two [] h = absurd (omega (arith, h))
+from_two (a ∷ []) h = absurd (omega (arith, h))
+from_two (a ∷ b ∷ ws) h = refl
 
-four_are : (ws : List (List ℕ)) (a b c d : List ℕ) → length ws ≡ 4 → word ws 0 ≡ a → word ws 1 ≡ b → word ws 2 ≡ c → word ws 3 ≡ d → ws ≡ a ∷ b ∷ c ∷ d ∷ []
-four_are ws a b c d count first second third fourth = four_words ws count ∙ rw (first, second, third, fourth) refl
+from_four : (ws : List (List ℕ)) → 3 < length ws → ws ≡ word ws 0 ∷ word ws 1 ∷ word ws 2 ∷ word ws 3 ∷ drop 4 ws
+from_four [] h = absurd (omega (arith, h))
+from_four (a ∷ []) h = absurd (omega (arith, h))
+from_four (a ∷ b ∷ []) h = absurd (omega (arith, h))
+from_four (a ∷ b ∷ c ∷ []) h = absurd (omega (arith, h))
+from_four (a ∷ b ∷ c ∷ d ∷ ws) h = refl
+
+two_are : (ws : List (List ℕ)) (a b : List ℕ) (rest : List (List ℕ)) → 1 < length ws → word ws 0 ≡ a → word ws 1 ≡ b → drop 2 ws ≡ rest → ws ≡ a ∷ b ∷ rest
+two_are ws a b rest count first second last = from_two ws count ∙ rw (first, second, last) refl
+
+four_are : (ws : List (List ℕ)) (a b c d : List ℕ) (rest : List (List ℕ)) → 3 < length ws → word ws 0 ≡ a → word ws 1 ≡ b → word ws 2 ≡ c → word ws 3 ≡ d → drop 4 ws ≡ rest → ws ≡ a ∷ b ∷ c ∷ d ∷ rest
+four_are ws a b c d rest count first second third fourth last = from_four ws count ∙ rw (first, second, third, fourth, last) refl
 
 chosen : {A : Type 0} (b : Bool) (o : Option A) (x : A) → cond b o None ≡ Some x → (b ≡ true) × (o ≡ Some x)
 chosen true o x e = (refl, e)
@@ -161,11 +189,48 @@ begin_is ws r e =
     let is = number_after_is (codes "begin") 18446744073709551615 m.0 ws (omega arith) m.1 in
     subst (Reads ws) m.2 (is.1, is.0)
 
-close_is : (ws : List (List ℕ)) (r : Request) → option_map Close (number_after (codes "close") 4294967295 ws) ≡ Some r → Reads ws r
+no_words : (ws : List (List ℕ)) → length ws ≡ 0 → ws ≡ []
+no_words [] h = refl
+no_words (a ∷ ws) h = absurd (omega (arith, h))
+
+-- a booking that is read is named by the words
+booking_is : (ws : List (List ℕ)) (b : Option ℕ) → booking_in ws ≡ Some b → (ws ≡ booking_words b) × IsNamed b
+unfolding booking_in
+booking_is ws b e = elim (cases_Bool (eqb (length ws) 0)) [
+  | inl none ↦
+      let same : Some None ≡ Some b = rw none at e in
+      subst (λ (o : Option ℕ). (ws ≡ booking_words o) × IsNamed o) (some_booking None b same) (no_words ws (eqb-true (length ws) 0 none), tt)
+  | inr more ↦
+      let found : option_map Some (number_after (codes "for") 18446744073709551615 ws) ≡ Some b = rw more at e in
+      named (number_after (codes "for") 18446744073709551615 ws) refl found
+]
+  where
+    some_booking : (a b : Option ℕ) → Some a ≡ Some b → a ≡ b
+    some_booking a b e = cc
+
+    named : (o : Option ℕ) → number_after (codes "for") 18446744073709551615 ws ≡ o → option_map Some o ≡ Some b → (ws ≡ booking_words b) × IsNamed b
+    named None w h = absurd cc
+    named (Some n) w h =
+        let is = number_after_is (codes "for") 18446744073709551615 n ws (omega arith) w in
+        subst (λ (o : Option ℕ). (ws ≡ booking_words o) × IsNamed o) (some_booking (Some n) b h) (is.1, is.0)
+
+-- the number and the booking of a closing
+closing : (a : Option ℕ) (c : Option (Option ℕ)) (r : Request) → close_with a c ≡ Some r → (s : ℕ) × (b : Option ℕ) × (a ≡ Some s) × (c ≡ Some b) × (Close s b ≡ r)
+closing None c r e = absurd cc
+closing (Some s) None r e = absurd cc
+closing (Some s) (Some b) r e = (s, b, refl, refl, cc)
+
+close_is : (ws : List (List ℕ)) (r : Request) → close_in ws ≡ Some r → Reads ws r
+unfolding close_in
 close_is ws r e =
-    let m = mapped Close (number_after (codes "close") 4294967295 ws) r e in
-    let is = number_after_is (codes "close") 4294967295 m.0 ws (omega arith) m.1 in
-    subst (Reads ws) m.2 (is.1, is.0)
+    let c = chosen (ltb 1 (length ws) && bytes_eq (word ws 0) (codes "close")) (close_with (number_of 4294967295 (word ws 1)) (booking_in (drop 2 ws))) r e in
+    let p = and_parts (ltb 1 (length ws)) (bytes_eq (word ws 0) (codes "close")) c.0 in
+    let t = closing (number_of 4294967295 (word ws 1)) (booking_in (drop 2 ws)) r c.1 in
+    let first : word ws 0 ≡ codes "close" = (bytes_eq-Decides (word ws 0) (codes "close")).0 p.1 in
+    let session = number_is 4294967295 (word ws 1) t.0 (omega arith) t.2 in
+    let booking = booking_is (drop 2 ws) t.1 t.3 in
+    let all = two_are ws (codes "close") (decimal t.0) (booking_words t.1) (ltb-true 1 (length ws) p.0) first session.1 booking.0 in
+    subst (Reads ws) t.4 (all, (session.0, booking.1))
 
 look_is : (ws : List (List ℕ)) (r : Request) → option_map Look (number_after (codes "look") 4294967295 ws) ≡ Some r → Reads ws r
 look_is ws r e =
@@ -173,25 +238,27 @@ look_is ws r e =
     let is = number_after_is (codes "look") 4294967295 m.0 ws (omega arith) m.1 in
     subst (Reads ws) m.2 (is.1, is.0)
 
--- the three numbers of an answer
-three : (a b c : Option ℕ) (r : Request) → answer_with a b c ≡ Some r → (s : ℕ) × (k : ℕ) × (x : ℕ) × (a ≡ Some s) × (b ≡ Some k) × (c ≡ Some x) × (Answer s k x ≡ r)
-three None b c r e = absurd cc
-three (Some s) None c r e = absurd cc
-three (Some s) (Some k) None r e = absurd cc
-three (Some s) (Some k) (Some x) r e = (s, k, x, refl, refl, refl, cc)
+-- the three numbers and the booking of an answer
+three : (a b c : Option ℕ) (d : Option (Option ℕ)) (r : Request) → answer_with a b c d ≡ Some r → (s : ℕ) × (k : ℕ) × (x : ℕ) × (n : Option ℕ) × (a ≡ Some s) × (b ≡ Some k) × (c ≡ Some x) × (d ≡ Some n) × (Answer s k x n ≡ r)
+three None b c d r e = absurd cc
+three (Some s) None c d r e = absurd cc
+three (Some s) (Some k) None d r e = absurd cc
+three (Some s) (Some k) (Some x) None r e = absurd cc
+three (Some s) (Some k) (Some x) (Some n) r e = (s, k, x, n, refl, refl, refl, refl, cc)
 
 answer_is : (ws : List (List ℕ)) (r : Request) → answer_in ws ≡ Some r → Reads ws r
 unfolding answer_in
 answer_is ws r e =
-    let c = chosen (eqb (length ws) 4 && bytes_eq (word ws 0) (codes "answer")) (answer_with (number_of 4294967295 (word ws 1)) (number_of 65535 (word ws 2)) (number_of 255 (word ws 3))) r e in
-    let p = and_parts (eqb (length ws) 4) (bytes_eq (word ws 0) (codes "answer")) c.0 in
-    let t = three (number_of 4294967295 (word ws 1)) (number_of 65535 (word ws 2)) (number_of 255 (word ws 3)) r c.1 in
+    let c = chosen (ltb 3 (length ws) && bytes_eq (word ws 0) (codes "answer")) (answer_with (number_of 4294967295 (word ws 1)) (number_of 65535 (word ws 2)) (number_of 255 (word ws 3)) (booking_in (drop 4 ws))) r e in
+    let p = and_parts (ltb 3 (length ws)) (bytes_eq (word ws 0) (codes "answer")) c.0 in
+    let t = three (number_of 4294967295 (word ws 1)) (number_of 65535 (word ws 2)) (number_of 255 (word ws 3)) (booking_in (drop 4 ws)) r c.1 in
     let first : word ws 0 ≡ codes "answer" = (bytes_eq-Decides (word ws 0) (codes "answer")).0 p.1 in
-    let session = number_is 4294967295 (word ws 1) t.0 (omega arith) t.3 in
-    let step = number_is 65535 (word ws 2) t.1 (omega arith) t.4 in
-    let response = number_is 255 (word ws 3) t.2 (omega arith) t.5 in
-    let four = four_are ws (codes "answer") (decimal t.0) (decimal t.1) (decimal t.2) (eqb-true (length ws) 4 p.0) first session.1 step.1 response.1 in
-    subst (Reads ws) t.6 (four, (session.0, step.0, response.0))
+    let session = number_is 4294967295 (word ws 1) t.0 (omega arith) t.4 in
+    let step = number_is 65535 (word ws 2) t.1 (omega arith) t.5 in
+    let response = number_is 255 (word ws 3) t.2 (omega arith) t.6 in
+    let booking = booking_is (drop 4 ws) t.3 t.7 in
+    let all = four_are ws (codes "answer") (decimal t.0) (decimal t.1) (decimal t.2) (booking_words t.3) (ltb-true 3 (length ws) p.0) first session.1 step.1 response.1 booking.0 in
+    subst (Reads ws) t.8 (all, (session.0, step.0, response.0, booking.1))
 
 exposure_is : (ws : List (List ℕ)) (r : Request) → exposure_in ws ≡ Some r → Reads ws r
 unfolding exposure_in
@@ -258,15 +325,15 @@ line_lacks_from w (v ∷ vs) h = lacks_append 10 w (32 ∷ spaced (v ∷ vs)) h.
 pub line_lacks : (r : Request) → IsInRange r → Lacks 10 (request_line r)
 line_lacks (Begin n) h = line_lacks_from (codes "begin") (decimal n ∷ []) (words_lack 10 (omega arith) (Begin n) h)
 line_lacks (BeginWithout n items) h = line_lacks_from (codes "begin") (decimal n ∷ codes "without" ∷ set_words (has items)) (words_lack 10 (omega arith) (BeginWithout n items) h)
-line_lacks (Answer s k r) h = line_lacks_from (codes "answer") (decimal s ∷ decimal k ∷ decimal r ∷ []) (words_lack 10 (omega arith) (Answer s k r) h)
-line_lacks (Close s) h = line_lacks_from (codes "close") (decimal s ∷ []) (words_lack 10 (omega arith) (Close s) h)
+line_lacks (Answer s k r b) h = line_lacks_from (codes "answer") (decimal s ∷ decimal k ∷ decimal r ∷ booking_words b) (words_lack 10 (omega arith) (Answer s k r b) h)
+line_lacks (Close s b) h = line_lacks_from (codes "close") (decimal s ∷ booking_words b) (words_lack 10 (omega arith) (Close s b) h)
 line_lacks (Look s) h = line_lacks_from (codes "look") (decimal s ∷ []) (words_lack 10 (omega arith) (Look s) h)
 line_lacks Exposure h = line_lacks_from (codes "exposure") [] (words_lack 10 (omega arith) Exposure h)
 
 pub line_some : (r : Request) → 0 < length (request_line r)
 line_some (Begin n) = omega arith
 line_some (BeginWithout n items) = omega arith
-line_some (Answer s k r) = omega arith
-line_some (Close s) = omega arith
+line_some (Answer s k r b) = omega arith
+line_some (Close s b) = omega arith
 line_some (Look s) = omega arith
 line_some Exposure = omega arith

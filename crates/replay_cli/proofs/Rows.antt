@@ -1,5 +1,5 @@
 -- The definitions, computed on scripts and replies that were worked out by hand.
-use Rattle.std.proofs.Common.{◌≡◌, ℕ, zero, suc, true, false, List, [], ◌∷◌, Err, refl, inl, inr, codes, subst, arith}
+use Rattle.std.proofs.Common.{◌≡◌, ℕ, zero, suc, true, false, List, [], ◌∷◌, Some, None, Err, refl, inl, inr, codes, subst, arith}
 use Rattle.std.specs.List.{All}
 use Rattle.std.specs.Fmt.{digits}
 use Rattle.exam_text.specs.Numbers.{number_of}
@@ -7,13 +7,13 @@ use Rattle.exam_text.specs.Runs.{is_set, run_of}
 use Rattle.exam_text.specs.Words.{lines_of as lines_of_text}
 use Rattle.history_model.specs.declared.counts.Counts.{Counts}
 use Rattle.history_model.specs.declared.place.Place.TheVariants.{Pending, Waiting, Complete, Closed}
-use Rattle.history_model.specs.declared.refusal.Refusal.TheVariants.{NoSession, WrongStep, Other, BadResponse, IsClosed, OtherList, NoItem, NoForm, NoneFound, SessionsFull, JournalFull, Disk, Memory, Stale}
+use Rattle.history_model.specs.declared.refusal.Refusal.TheVariants.{NoSession, WrongStep, Other, BadResponse, IsClosed, OtherList, NoItem, NoForm, NoneFound, OtherBooking, SessionsFull, JournalFull, Disk, Memory, Stale}
 use Rattle.history_model.specs.declared.request.Reply.TheVariants as reply
 use Rattle.history_model.specs.declared.request.Request.{Request}
 use Rattle.history_model.specs.declared.request.Request.TheVariants.{Begin, Answer, Close, Look, Exposure}
 use Rattle.replay_cli.specs.declared.script_fault.ScriptFault.TheVariants.{Line}
 use Rattle.replay_cli.specs.Scripts.{IsInRange, text_of_requests, IsScript, IsFirstFaultyLine}
-use Rattle.replay_cli.specs.Reading.{number_after, answer_in, exposure_in, request_in, without_in, request_from, requests_of}
+use Rattle.replay_cli.specs.Reading.{number_after, booking_in, answer_in, close_in, exposure_in, request_in, without_in, request_from, requests_of}
 use Rattle.replay_cli.specs.Replies.{place_line, counts_line, exposure_lines, refusal_line, line_of, lines_of}
 use Rattle.replay_cli.proofs.ReadLaws.{fault_is}
 
@@ -31,11 +31,11 @@ all (r ∷ rs) h (suc k) d lt = all rs h.1 k d (omega (arith, lt))
 
 -- the session of three items on bank A, and its counts
 session_of_a : List Request
-session_of_a = Begin 70 ∷ Answer 0 0 1 ∷ Answer 0 1 0 ∷ Answer 0 2 1 ∷ Exposure ∷ []
+session_of_a = Begin 70 ∷ Answer 0 0 1 None ∷ Answer 0 1 0 None ∷ Answer 0 2 1 None ∷ Exposure ∷ []
 
 each_of_a : Each session_of_a
 unfolding session_of_a
-each_of_a = (omega arith, ((omega arith, omega arith, omega arith), ((omega arith, omega arith, omega arith), ((omega arith, omega arith, omega arith), (tt, tt)))))
+each_of_a = (omega arith, ((omega arith, omega arith, omega arith, tt), ((omega arith, omega arith, omega arith, tt), ((omega arith, omega arith, omega arith, tt), (tt, tt)))))
 
 script_of_a : IsScript (codes "begin 70\nanswer 0 0 1\nanswer 0 1 0\nanswer 0 2 1\nexposure\n") session_of_a
 unfolding session_of_a text_of_requests digits
@@ -48,12 +48,23 @@ script_unended = record { in_range = all session_of_a each_of_a; lines = inr ref
 
 -- the greatest numbers
 greatest : List Request
-greatest = Begin 18446744073709551615 ∷ Answer 4294967295 65535 255 ∷ Close 4294967295 ∷ Look 4294967295 ∷ []
+greatest = Begin 18446744073709551615 ∷ Answer 4294967295 65535 255 None ∷ Close 4294967295 None ∷ Look 4294967295 ∷ []
 
 script_of_greatest : IsScript (codes "begin 18446744073709551615\nanswer 4294967295 65535 255\nclose 4294967295\nlook 4294967295\n") greatest
 unfolding greatest text_of_requests digits
 script_of_greatest = record {
-  in_range = all greatest (omega arith, ((omega arith, omega arith, omega arith), (omega arith, (omega arith, tt))));
+  in_range = all greatest (omega arith, ((omega arith, omega arith, omega arith, tt), ((omega arith, tt), (omega arith, tt))));
+  lines = inl refl;
+}
+
+-- an answer and a closing that name a booking, the greatest and the least
+named : List Request
+named = Answer 3 0 1 (Some 18446744073709551615) ∷ Close 3 (Some 0) ∷ []
+
+script_of_named : IsScript (codes "answer 3 0 1 for 18446744073709551615\nclose 3 for 0\n") named
+unfolding named text_of_requests digits
+script_of_named = record {
+  in_range = all named ((omega arith, omega arith, omega arith, omega arith), ((omega arith, omega arith), tt));
   lines = inl refl;
 }
 
@@ -74,38 +85,67 @@ first_faulty text n e =
 
 -- an answer lacks its response
 answer_too_short : IsFirstFaultyLine (codes "answer 0 0\n") 1
-unfolding requests_of request_from without_in request_in number_after answer_in exposure_in number_of
+unfolding requests_of request_from without_in request_in number_after booking_in answer_in close_in exposure_in number_of
 answer_too_short = first_faulty (codes "answer 0 0\n") 1 refl
 
 empty_line : IsFirstFaultyLine (codes "begin 1\n\nbegin 2\n") 2
-unfolding requests_of request_from without_in request_in number_after answer_in exposure_in number_of
+unfolding requests_of request_from without_in request_in number_after booking_in answer_in close_in exposure_in number_of
 empty_line = first_faulty (codes "begin 1\n\nbegin 2\n") 2 refl
 
 leading_zero : IsFirstFaultyLine (codes "begin 1\nclose 00\nlook\n") 2
-unfolding requests_of request_from without_in request_in number_after answer_in exposure_in number_of
+unfolding requests_of request_from without_in request_in number_after booking_in answer_in close_in exposure_in number_of
 leading_zero = first_faulty (codes "begin 1\nclose 00\nlook\n") 2 refl
 
 step_too_great : IsFirstFaultyLine (codes "answer 0 65536 0\n") 1
-unfolding requests_of request_from without_in request_in number_after answer_in exposure_in number_of
+unfolding requests_of request_from without_in request_in number_after booking_in answer_in close_in exposure_in number_of
 step_too_great = first_faulty (codes "answer 0 65536 0\n") 1 refl
 
 space_too_many : IsFirstFaultyLine (codes "exposure\nlook 0 \n") 2
-unfolding requests_of request_from without_in request_in number_after answer_in exposure_in number_of
+unfolding requests_of request_from without_in request_in number_after booking_in answer_in close_in exposure_in number_of
 space_too_many = first_faulty (codes "exposure\nlook 0 \n") 2 refl
+
+-- a booking that is named is a number below 2^64, after the one word `for`
+booking_missing : IsFirstFaultyLine (codes "close 0\nclose 0 for\n") 2
+unfolding requests_of request_from without_in request_in number_after booking_in answer_in close_in exposure_in number_of
+booking_missing = first_faulty (codes "close 0\nclose 0 for\n") 2 refl
+
+booking_without_for : IsFirstFaultyLine (codes "answer 0 0 1 7\n") 1
+unfolding requests_of request_from without_in request_in number_after booking_in answer_in close_in exposure_in number_of
+booking_without_for = first_faulty (codes "answer 0 0 1 7\n") 1 refl
+
+other_word_for : IsFirstFaultyLine (codes "answer 0 0 1 of 7\n") 1
+unfolding requests_of request_from without_in request_in number_after booking_in answer_in close_in exposure_in number_of
+other_word_for = first_faulty (codes "answer 0 0 1 of 7\n") 1 refl
+
+booking_too_great : IsFirstFaultyLine (codes "answer 0 0 1 for 18446744073709551616\n") 1
+unfolding requests_of request_from without_in request_in number_after booking_in answer_in close_in exposure_in number_of
+booking_too_great = first_faulty (codes "answer 0 0 1 for 18446744073709551616\n") 1 refl
+
+booking_spelled_otherwise : IsFirstFaultyLine (codes "close 0 for 07\n") 1
+unfolding requests_of request_from without_in request_in number_after booking_in answer_in close_in exposure_in number_of
+booking_spelled_otherwise = first_faulty (codes "close 0 for 07\n") 1 refl
+
+two_bookings : IsFirstFaultyLine (codes "close 0 for 7 for 7\n") 1
+unfolding requests_of request_from without_in request_in number_after booking_in answer_in close_in exposure_in number_of
+two_bookings = first_faulty (codes "close 0 for 7 for 7\n") 1 refl
+
+look_names_none : IsFirstFaultyLine (codes "look 0 for 7\n") 1
+unfolding requests_of request_from without_in request_in number_after booking_in answer_in close_in exposure_in number_of
+look_names_none = first_faulty (codes "look 0 for 7\n") 1 refl
 
 -- a list has an item
 no_item : IsFirstFaultyLine (codes "begin 1 without\n") 1
-unfolding requests_of request_from without_in request_in number_after answer_in exposure_in number_of
+unfolding requests_of request_from without_in request_in number_after booking_in answer_in close_in exposure_in number_of
 no_item = first_faulty (codes "begin 1 without\n") 1 refl
 
 -- a word in the place of `without`
 other_word : IsFirstFaultyLine (codes "begin 1 with 2\n") 1
-unfolding requests_of request_from without_in request_in number_after answer_in exposure_in number_of
+unfolding requests_of request_from without_in request_in number_after booking_in answer_in close_in exposure_in number_of
 other_word = first_faulty (codes "begin 1 with 2\n") 1 refl
 
 -- no item has the number 512
 past_the_items : IsFirstFaultyLine (codes "begin 1 without 512\n") 1
-unfolding requests_of request_from without_in request_in number_after answer_in exposure_in number_of is_set run_of
+unfolding requests_of request_from without_in request_in number_after booking_in answer_in close_in exposure_in number_of is_set run_of
 past_the_items = first_faulty (codes "begin 1 without 512\n") 1 refl
 
 -- ---- replies
@@ -131,8 +171,8 @@ refused : (lines_of (reply.Refused (Other 1) ∷ reply.Refused (WrongStep 1) ∷
 unfolding line_of refusal_line digits
 refused = (refl, refl)
 
-refused_lists : lines_of (reply.Refused (OtherList 1) ∷ reply.Refused (NoItem 6) ∷ reply.Refused NoForm ∷ reply.Refused NoneFound ∷ [])
-    ≡ codes "refused other-list 1\nrefused no-item 6\nrefused no-form\nrefused none-found\n"
+refused_lists : lines_of (reply.Refused (OtherList 1) ∷ reply.Refused (NoItem 6) ∷ reply.Refused NoForm ∷ reply.Refused NoneFound ∷ reply.Refused OtherBooking ∷ [])
+    ≡ codes "refused other-list 1\nrefused no-item 6\nrefused no-form\nrefused none-found\nrefused other-booking\n"
 unfolding line_of refusal_line digits
 refused_lists = refl
 

@@ -21,17 +21,38 @@ number_after name most words =
     then number_of most (word words 1)
     else None
 
--- the answer of these three numbers, if each is there
-abbrev pub answer_with : Option ℕ → Option ℕ → Option ℕ → Option Request
-answer_with (Some session) (Some step) (Some response) = Some (Answer session step response)
-answer_with session step response = None
+-- the booking that the last words of a line name: no words name none, and other words than
+-- `for B` are a fault
+unfoldable pub booking_in : List (List ℕ) → Option (Option ℕ)
+booking_in words =
+    if (length words == 0)
+    then Some None
+    else option_map Some (number_after (codes "for") 18446744073709551615 words)
+
+-- the answer of these three numbers and this booking, if each is there
+abbrev pub answer_with : Option ℕ → Option ℕ → Option ℕ → Option (Option ℕ) → Option Request
+answer_with (Some session) (Some step) (Some response) (Some booking) =
+    Some (Answer session step response booking)
+answer_with session step response booking = None
 
 -- the answer of the words of a line
 unfoldable pub answer_in : List (List ℕ) → Option Request
 answer_in words =
-    if ((length words == 4) && bytes_eq (word words 0) (codes "answer"))
+    if (nat_lt 3 (length words) && bytes_eq (word words 0) (codes "answer"))
     then answer_with (number_of 4294967295 (word words 1)) (number_of 65535 (word words 2))
-    (number_of 255 (word words 3))
+    (number_of 255 (word words 3)) (booking_in (drop 4 words))
+    else None
+
+-- the closing of this session with this booking, if both are there
+abbrev pub close_with : Option ℕ → Option (Option ℕ) → Option Request
+close_with (Some session) (Some booking) = Some (Close session booking)
+close_with session booking = None
+
+-- the closing of the words of a line
+unfoldable pub close_in : List (List ℕ) → Option Request
+close_in words =
+    if (nat_lt 1 (length words) && bytes_eq (word words 0) (codes "close"))
+    then close_with (number_of 4294967295 (word words 1)) (booking_in (drop 2 words))
     else None
 
 -- the request for the counts, if the word of a line is that
@@ -46,7 +67,7 @@ unfoldable pub request_in : List (List ℕ) → Option Request
 request_in words =
     option_map Begin (number_after (codes "begin") 18446744073709551615 words)
     orelse answer_in words
-    orelse option_map Close (number_after (codes "close") 4294967295 words)
+    orelse close_in words
     orelse option_map Look (number_after (codes "look") 4294967295 words)
     orelse exposure_in words
 

@@ -6,7 +6,7 @@ use Rattle.history_model.specs.declared.counts.Counts.{Counts}
 use Rattle.history_model.specs.declared.place.Place.{Place}
 use Rattle.history_model.specs.declared.place.Place.TheVariants.{Pending, Waiting, Complete, Closed}
 use Rattle.history_model.specs.declared.refusal.Refusal.{Refusal}
-use Rattle.history_model.specs.declared.refusal.Refusal.TheVariants.{NoSession, WrongStep, Other, BadResponse, IsClosed, OtherList, NoItem, NoForm, NoneFound}
+use Rattle.history_model.specs.declared.refusal.Refusal.TheVariants.{NoSession, WrongStep, Other, BadResponse, IsClosed, OtherList, NoItem, NoForm, NoneFound, OtherBooking}
 use Rattle.history_model.specs.Words.{refusal_word}
 use Rattle.history_model.specs.declared.request.Exposure.{Exposure}
 use Rattle.history_model.specs.declared.request.Reply.{Reply}
@@ -69,6 +69,7 @@ refusal_line (OtherList session) = line_with (OtherList session) (decimal sessio
 refusal_line (NoItem count) = line_with (NoItem count) (decimal count)
 refusal_line NoForm = line_without NoForm
 refusal_line NoneFound = line_without NoneFound
+refusal_line OtherBooking = line_without OtherBooking
 refusal_line _ = []
 
 -- the line of a reply, or the lines of an exposure, each with its line feed

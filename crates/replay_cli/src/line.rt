@@ -21,7 +21,7 @@ fn without_line(alloc: Global, booking: u64, items: &ItemSet) -> Result<Vec<u8>,
 }
 
 /// The line of a request in a script, without its line feed.
-#[tactic(auto, using(crate::proofs::RequestTexts::answer_text))]
+#[tactic(auto, using(crate::proofs::RequestTexts::request_texts))]
 pub fn request_line(alloc: Global, request: &Request) -> Result<Vec<u8>, Memory>
     ensures { IfOk result (λ line. line.items ≡ request_line request.now) }
 {
@@ -32,8 +32,22 @@ pub fn request_line(alloc: Global, request: &Request) -> Result<Vec<u8>, Memory>
             session,
             step,
             response,
+            booking: None,
         } => format!(in alloc; "answer {session} {step} {response}")?,
-        Request::Close(session) => format!(in alloc; "close {session}")?,
+        Request::Answer {
+            session,
+            step,
+            response,
+            booking: Some(booking),
+        } => format!(in alloc; "answer {session} {step} {response} for {booking}")?,
+        Request::Close {
+            session,
+            booking: None,
+        } => format!(in alloc; "close {session}")?,
+        Request::Close {
+            session,
+            booking: Some(booking),
+        } => format!(in alloc; "close {session} for {booking}")?,
         Request::Look(session) => format!(in alloc; "look {session}")?,
         Request::Exposure => String::from_str(alloc, "exposure")?,
     };

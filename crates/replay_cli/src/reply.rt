@@ -93,6 +93,7 @@ fn refusal_line(alloc: Global, refusal: Refusal) -> Result<String, Memory>
         Refusal::OtherList(session) => line_with_number(alloc, refusal, session),
         Refusal::NoItem(count) => line_with_number(alloc, refusal, u32::from(count)),
         Refusal::NoForm | Refusal::NoneFound => line_without(alloc, refusal),
+        Refusal::OtherBooking => line_without(alloc, refusal),
         _ => Ok(String::new(alloc)),
     }
 }

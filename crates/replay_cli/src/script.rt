@@ -7,7 +7,7 @@ ghost use Rattle.exam_text.specs.First.{Gives, or_fault};
 ghost use Rattle.exam_text.specs.Words.{lines_of, words_of};
 ghost use Rattle.history_model.specs.declared.request.Request.{Request};
 ghost use Rattle.replay_cli.specs.Scripts.{IsScript};
-ghost use Rattle.replay_cli.specs.Reading.{number_after, answer_in, exposure_in, request_in, list_in, without_in, request_on, requests_of, most_bytes, IsScriptFault, IsOfText};
+ghost use Rattle.replay_cli.specs.Reading.{number_after, booking_in, answer_in, close_in, exposure_in, request_in, list_in, without_in, request_on, requests_of, most_bytes, IsScriptFault, IsOfText};
 ghost use Rattle.replay_cli.specs.declared.script_fault.ScriptFault.TheVariants as fault;
 
 use crate::line::request_line;
@@ -34,20 +34,51 @@ fn number_after(name: &[u8], most: u64, words: &[&[u8]]) -> Option<u64>
     number(word_at(words, 1), most)
 }
 
+/// The booking that the last words of a line name: no words name none.
+#[tactic(auto, unfolding(crate::specs::Reading::booking_in))]
+fn booking_in(words: &[&[u8]]) -> Option<Option<u64>>
+    ensures { result ≡ booking_in (map (λ w. w.now) words.now) }
+{
+    if words.is_empty() {
+        return Some(None);
+    }
+    match number_after(b"for", u64::MAX, words) {
+        None => None,
+        Some(booking) => Some(Some(booking)),
+    }
+}
+
 #[tactic(auto, unfolding(crate::specs::Reading::answer_in))]
 fn answer_in(words: &[&[u8]]) -> Option<Request>
     ensures { result ≡ answer_in (map (λ w. w.now) words.now) }
 {
-    if words.len() != 4 || word_at(words, 0) != b"answer".as_slice() {
+    if words.len() < 4 || word_at(words, 0) != b"answer".as_slice() {
         return None;
     }
     let session = number(word_at(words, 1), MOST_SESSION)?;
     let step = number(word_at(words, 2), 65_535)?;
     let response = number(word_at(words, 3), 255)?;
+    let booking = booking_in(words.split_at(4).1)?;
     Some(Request::Answer {
         session: session as u32,
         step: step as u16,
         response: response as u8,
+        booking,
+    })
+}
+
+#[tactic(auto, unfolding(crate::specs::Reading::close_in))]
+fn close_in(words: &[&[u8]]) -> Option<Request>
+    ensures { result ≡ close_in (map (λ w. w.now) words.now) }
+{
+    if words.len() < 2 || word_at(words, 0) != b"close".as_slice() {
+        return None;
+    }
+    let session = number(word_at(words, 1), MOST_SESSION)?;
+    let booking = booking_in(words.split_at(2).1)?;
+    Some(Request::Close {
+        session: session as u32,
+        booking,
     })
 }
 
@@ -72,8 +103,8 @@ fn request_in(words: &[&[u8]]) -> Option<Request>
     if let Some(answer) = answer_in(words) {
         return Some(answer);
     }
-    if let Some(session) = number_after(b"close", MOST_SESSION, words) {
-        return Some(Request::Close(session as u32));
+    if let Some(close) = close_in(words) {
+        return Some(close);
     }
     if let Some(session) = number_after(b"look", MOST_SESSION, words) {
         return Some(Request::Look(session as u32));
@@ -153,9 +184,9 @@ fn requests_in(alloc: Global, text: &[u8]) -> Result<Vec<Request>, ScriptFault>
 }
 
 /// The requests of the script that a source gives, in order. A script has a line for each request:
-/// `begin B`, `begin B without SET`, `answer S K R`, `close S`, `look S` or `exposure`, with B a
-/// booking, SET the items of a list, S a session, K a step and R a response. SET is spelled in its
-/// maximal runs, as `0-3 7`, with a space between each two. The last line may lack its line feed. The text has at most 16,777,216
+/// `begin B`, `begin B without SET`, `answer S K R`, `answer S K R for B`, `close S`, `close S for B`,
+/// `look S` or `exposure`, with B a booking, SET the items of a list, S a session, K a step and R a
+/// response. SET is spelled in its maximal runs, as `0-3 7`, with a space between each two. The last line may lack its line feed. The text has at most 16,777,216
 /// bytes and is read to its end. Of several faulty lines the first is named. `Source` is given only
 /// if the source's count of faults rose.
 pub fn read_script<S: Source>(alloc: Global, source: &mut S) -> Result<Vec<Request>, ScriptFault>

@@ -1,8 +1,9 @@
 //! Messages and the responses to them.
 
 use crate::responses::{
-    BAD_BODY, BAD_JSON, BAD_RESPONSE, CREATED, FOUND, LISTED, LISTED_FOUND, NO_COUNTS, NO_FORM,
-    NO_ITEM, NO_LENGTH, NO_METHOD, NO_SESSION, OTHER_LIST, TOO_LONG,
+    ANSWERED, BAD_BODY, BAD_JSON, BAD_RESPONSE, CLOSED, CREATED, FOUND, IS_CLOSED, LAST_CLOSED,
+    LISTED, LISTED_FOUND, NO_COUNTS, NO_FORM, NO_ITEM, NO_LENGTH, NO_METHOD, NO_SESSION,
+    OTHER_BOOKING, OTHER_LIST, TOO_LONG,
 };
 use exam_http::Ended;
 use std::alloc::Global;
@@ -141,6 +142,128 @@ pub(crate) const LISTS: Exchange = Exchange {
             FOUND,
         ),
         (LAST, 0, NO_COUNTS),
+    ],
+    ended: Ended::Done,
+};
+
+/// Answers and closings that name a booking. A faulty booking is refused, and so is another one, before the
+/// step and the response are looked at; neither does anything. The right one is as none. A body that is no
+/// JSON, or no object, closes without a booking.
+pub(crate) const BOOKINGS: Exchange = Exchange {
+    messages: &[
+        (START, 0, CREATED),
+        (
+            "POST /sessions/0/answers HTTP/1.1\r\nContent-Length: 38\r\n\r\n{\"step\":0,\"response\":1,\"booking\":null}",
+            0,
+            BAD_BODY,
+        ),
+        (
+            "POST /sessions/0/answers HTTP/1.1\r\nContent-Length: 37\r\n\r\n{\"step\":0,\"response\":1,\"booking\":1.0}",
+            0,
+            BAD_BODY,
+        ),
+        (
+            "POST /sessions/0/answers HTTP/1.1\r\nContent-Length: 38\r\n\r\n{\"step\":0,\"response\":1,\"booking\":\"70\"}",
+            0,
+            BAD_BODY,
+        ),
+        (
+            "POST /sessions/0/answers HTTP/1.1\r\nContent-Length: 36\r\n\r\n{\"step\":0,\"response\":1,\"booking\":-1}",
+            0,
+            BAD_BODY,
+        ),
+        (
+            "POST /sessions/0/answers HTTP/1.1\r\nContent-Length: 54\r\n\r\n{\"step\":0,\"response\":1,\"booking\":18446744073709551616}",
+            0,
+            BAD_BODY,
+        ),
+        (
+            "POST /sessions/0/close HTTP/1.1\r\nContent-Length: 16\r\n\r\n{\"booking\":null}",
+            0,
+            BAD_BODY,
+        ),
+        (
+            "POST /sessions/0/close HTTP/1.1\r\nContent-Length: 16\r\n\r\n{\"booking\":[70]}",
+            0,
+            BAD_BODY,
+        ),
+        (
+            "POST /sessions/0/answers HTTP/1.1\r\nContent-Length: 36\r\n\r\n{\"step\":0,\"response\":1,\"booking\":71}",
+            0,
+            OTHER_BOOKING,
+        ),
+        (
+            "POST /sessions/0/answers HTTP/1.1\r\nContent-Length: 36\r\n\r\n{\"step\":9,\"response\":9,\"booking\":71}",
+            0,
+            OTHER_BOOKING,
+        ),
+        (
+            "POST /sessions/0/answers HTTP/1.1\r\nContent-Length: 54\r\n\r\n{\"step\":0,\"response\":1,\"booking\":18446744073709551615}",
+            0,
+            OTHER_BOOKING,
+        ),
+        (
+            "POST /sessions/0/close HTTP/1.1\r\nContent-Length: 14\r\n\r\n{\"booking\":71}",
+            0,
+            OTHER_BOOKING,
+        ),
+        (
+            "POST /sessions/9/answers HTTP/1.1\r\nContent-Length: 36\r\n\r\n{\"step\":0,\"response\":1,\"booking\":71}",
+            0,
+            NO_SESSION,
+        ),
+        (
+            "POST /sessions/9/close HTTP/1.1\r\nContent-Length: 14\r\n\r\n{\"booking\":71}",
+            0,
+            NO_SESSION,
+        ),
+        ("GET /sessions/0 HTTP/1.1\r\n\r\n", 0, FOUND),
+        (
+            "POST /sessions/0/answers HTTP/1.1\r\nContent-Length: 49\r\n\r\n{\"booking\":71,\"step\":0,\"booking\":70,\"response\":1}",
+            0,
+            ANSWERED,
+        ),
+        (
+            "POST /sessions/0/answers HTTP/1.1\r\nContent-Length: 36\r\n\r\n{\"step\":0,\"response\":0,\"booking\":71}",
+            0,
+            OTHER_BOOKING,
+        ),
+        (
+            "POST /sessions/0/answers HTTP/1.1\r\nContent-Length: 36\r\n\r\n{\"step\":0,\"response\":1,\"booking\":70}",
+            0,
+            ANSWERED,
+        ),
+        (
+            "POST /sessions/0/answers HTTP/1.1\r\nContent-Length: 23\r\n\r\n{\"step\":0,\"response\":1}",
+            0,
+            ANSWERED,
+        ),
+        (
+            "POST /sessions/0/close HTTP/1.1\r\nContent-Length: 14\r\n\r\n{\"booking\":70}",
+            0,
+            CLOSED,
+        ),
+        (
+            "POST /sessions/0/close HTTP/1.1\r\nContent-Length: 14\r\n\r\n{\"booking\":71}",
+            0,
+            OTHER_BOOKING,
+        ),
+        (
+            "POST /sessions/0/close HTTP/1.1\r\nContent-Length: 14\r\n\r\n{\"booking\":70}",
+            0,
+            IS_CLOSED,
+        ),
+        (
+            "POST /sessions/0/close HTTP/1.1\r\nContent-Length: 13\r\n\r\n{\"booking\":71",
+            0,
+            IS_CLOSED,
+        ),
+        (
+            "POST /sessions/0/close HTTP/1.1\r\nContent-Length: 4\r\n\r\n[71]",
+            0,
+            IS_CLOSED,
+        ),
+        ("GET /sessions/0 HTTP/1.0\r\n\r\n", 0, LAST_CLOSED),
     ],
     ended: Ended::Done,
 };

@@ -8,9 +8,9 @@ use crate::equal::expect_equal;
 use crate::halls::{ask_all, hall_on};
 use crate::office::{EVEN, Numbers, RARE, planned};
 use crate::requests::{
-    Ask, FIRST, FIRST_ANSWER, LATER_FIRST, LATER_FIRST_ANSWER, LATER_SECOND, LATER_SECOND_ANSWER,
-    LATER_THIRD, LATER_THIRD_ANSWER, OTHER_ANSWER, SECOND, SECOND_ANSWER, THIRD, THIRD_ANSWER,
-    Told,
+    Ask, FIRST, FIRST_ANSWER, FIRST_ANSWER_FOR_70, FIRST_ANSWER_FOR_ANOTHER, LATER_FIRST,
+    LATER_FIRST_ANSWER, LATER_SECOND, LATER_SECOND_ANSWER, LATER_THIRD, LATER_THIRD_ANSWER,
+    OTHER_ANSWER, SECOND, SECOND_ANSWER, THIRD, THIRD_ANSWER, Told,
 };
 use bank_tables::Bank;
 use constraint_model::Spec;
@@ -30,7 +30,7 @@ struct Case {
     replies: &'static [Told],
 }
 
-const CASES: [Case; 2] = [
+const CASES: [Case; 3] = [
     // One session to its end. The same answer again, and the same booking again, add nothing.
     // Three requests are refused.
     Case {
@@ -59,6 +59,40 @@ const CASES: [Case; 2] = [
             Ok((0, Place::Complete, false)),
             Err(Refusal::IsClosed(Place::Complete)),
             Err(Refusal::NoSession(1)),
+            Ok((1, Place::Complete, false)),
+        ],
+    },
+    // Answers and closings that name a booking. Booking 71 has no session, then session 1. No
+    // session 2 is there, whatever the booking. What is recorded is given again to its own booking
+    // alone.
+    Case {
+        numbers: EVEN,
+        requests: &[
+            Ask::Begin(70),
+            FIRST_ANSWER_FOR_ANOTHER,
+            Ask::Begin(71),
+            FIRST_ANSWER_FOR_ANOTHER,
+            Ask::CloseFor(0, 71),
+            Ask::CloseFor(2, 71),
+            Ask::Look(0),
+            FIRST_ANSWER_FOR_70,
+            FIRST_ANSWER_FOR_70,
+            FIRST_ANSWER_FOR_ANOTHER,
+            Ask::CloseFor(1, 71),
+            Ask::Exposure,
+        ],
+        replies: &[
+            Ok((0, FIRST, true)),
+            Err(Refusal::OtherBooking),
+            Ok((1, FIRST, true)),
+            Err(Refusal::OtherBooking),
+            Err(Refusal::OtherBooking),
+            Err(Refusal::NoSession(2)),
+            Ok((0, FIRST, false)),
+            Ok((0, SECOND, false)),
+            Ok((0, SECOND, false)),
+            Err(Refusal::OtherBooking),
+            Ok((1, Place::Closed, false)),
             Ok((1, Place::Complete, false)),
         ],
     },

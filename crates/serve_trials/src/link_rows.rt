@@ -2,8 +2,8 @@
 
 use crate::equal::expect_equal;
 use crate::exchanges::{
-    A_BODY_TOO_LONG, A_HEAD_CUT_OFF, A_MESSAGE_OF_VERSION_1_0, EIGHT_MESSAGES, Exchange, LISTS,
-    Whole, whole_of,
+    A_BODY_TOO_LONG, A_HEAD_CUT_OFF, A_MESSAGE_OF_VERSION_1_0, BOOKINGS, EIGHT_MESSAGES, Exchange,
+    LISTS, Whole, whole_of,
 };
 use crate::link_office::{Cutting, Heard, expect_heard, expect_text, serve_bytes};
 use exam_http::Ended;
@@ -55,6 +55,7 @@ fn expect_exchange<R: Wait + Sync + Abort>(
 fn exchanges_in_any_pieces(rt: HostRuntime) -> Result<(), Fail> {
     expect_exchange(&rt, rt.alloc(), &EIGHT_MESSAGES)?;
     expect_exchange(&rt, rt.alloc(), &LISTS)?;
+    expect_exchange(&rt, rt.alloc(), &BOOKINGS)?;
     expect_exchange(&rt, rt.alloc(), &A_BODY_TOO_LONG)?;
     expect_exchange(&rt, rt.alloc(), &A_HEAD_CUT_OFF)?;
     expect_exchange(&rt, rt.alloc(), &A_MESSAGE_OF_VERSION_1_0)

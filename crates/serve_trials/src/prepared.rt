@@ -16,14 +16,15 @@ use crate::equal::expect_equal;
 use crate::office::{EVEN, empty_disk, opened, planned};
 use crate::own_desk::tried_with_own;
 use crate::requests::{
-    Ask, FIRST, FIRST_ANSWER, OTHER_ANSWER, SECOND, SECOND_ANSWER, THIRD, Told, request_of, told,
+    Ask, FIRST, FIRST_ANSWER, FIRST_ANSWER_FOR_ANOTHER, OTHER_ANSWER, SECOND, SECOND_ANSWER, THIRD,
+    Told, request_of, told,
 };
 use crate::work::{one_door, serve_bank_a};
 use bank_tables::Bank;
 use constraint_model::Spec;
 use exam_edge::MemoryDisk;
 use exam_hall::Hall;
-use exam_office::{Office, Place};
+use exam_office::{Office, Place, Refusal};
 use prepare_desk::{Desk, Key, Post, shared};
 use std::alloc::Global;
 use std::process::Abort;
@@ -74,6 +75,29 @@ const A_FORM_IS_READY: Trial = Trial {
         (Outcome::Prepared(2), 3),
         (Outcome::Reply(Ok((0, SECOND, false))), 3),
         (Outcome::Reply(Ok((0, SECOND, false))), 3),
+    ],
+    left: &[Key {
+        session: 0,
+        step: 0,
+        response: 0,
+    }],
+};
+
+// An answer that names another booking is refused. It takes the form of its response off the desk, so
+// the right answer needs an assembly, and gets the same item.
+const REFUSED_BEFORE: Trial = Trial {
+    room: 16,
+    steps: [
+        Step::Ask(Ask::Begin(70)),
+        Step::Prepare(0),
+        Step::Ask(FIRST_ANSWER_FOR_ANOTHER),
+        Step::Ask(FIRST_ANSWER),
+    ],
+    rows: [
+        (Outcome::Reply(Ok((0, FIRST, true))), 1),
+        (Outcome::Prepared(2), 3),
+        (Outcome::Reply(Err(Refusal::OtherBooking)), 3),
+        (Outcome::Reply(Ok((0, SECOND, false))), 4),
     ],
     left: &[Key {
         session: 0,
@@ -343,6 +367,11 @@ fn expect_rows_with<R: Abort + Wait>(
 #[test]
 fn an_answer_whose_form_is_ready_needs_no_assembly(rt: HostRuntime) -> Result<(), Fail> {
     expect_rows(&rt, rt.alloc(), &A_FORM_IS_READY)
+}
+
+#[test]
+fn a_refused_answer_costs_an_assembly(rt: HostRuntime) -> Result<(), Fail> {
+    expect_rows(&rt, rt.alloc(), &REFUSED_BEFORE)
 }
 
 #[test]

@@ -13,7 +13,16 @@ pub(crate) enum Ask {
         step: u16,
         response: u8,
     },
+    /// An answer with the booking that the session must have.
+    AnswerFor {
+        session: u32,
+        step: u16,
+        response: u8,
+        booking: u64,
+    },
     Close(u32),
+    /// A closing of a session, with the booking that the session must have.
+    CloseFor(u32, u64),
     Look(u32),
     Exposure,
 }
@@ -34,8 +43,27 @@ pub(crate) fn request_of(ask: &Ask) -> Request {
             session,
             step,
             response,
+            booking: None,
         },
-        Ask::Close(session) => Request::Close(session),
+        Ask::AnswerFor {
+            session,
+            step,
+            response,
+            booking,
+        } => Request::Answer {
+            session,
+            step,
+            response,
+            booking: Some(booking),
+        },
+        Ask::Close(session) => Request::Close {
+            session,
+            booking: None,
+        },
+        Ask::CloseFor(session, booking) => Request::Close {
+            session,
+            booking: Some(booking),
+        },
         Ask::Look(session) => Request::Look(session),
         Ask::Exposure => Request::Exposure,
     }
@@ -63,6 +91,22 @@ pub(crate) const FIRST_ANSWER: Ask = Ask::Answer {
     session: 0,
     step: 0,
     response: 1,
+};
+
+/// The same, with another booking than that of session 0.
+pub(crate) const FIRST_ANSWER_FOR_ANOTHER: Ask = Ask::AnswerFor {
+    session: 0,
+    step: 0,
+    response: 1,
+    booking: 71,
+};
+
+/// The same, with the booking of session 0.
+pub(crate) const FIRST_ANSWER_FOR_70: Ask = Ask::AnswerFor {
+    session: 0,
+    step: 0,
+    response: 1,
+    booking: 70,
 };
 
 /// The wrong answer to the second item of session 0.

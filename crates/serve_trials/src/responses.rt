@@ -15,6 +15,16 @@ pub(crate) const FOUND: &str = "HTTP/1.1 200 OK\r\n\
     Content-Type: application/json\r\nContent-Length: 63\r\n\r\n\
     {\"item\":2,\"proved\":true,\"session\":0,\"state\":\"waiting\",\"step\":0}";
 
+/// The answer to the first item of session 0 is recorded, and it waits for that to its second.
+pub(crate) const ANSWERED: &str = "HTTP/1.1 200 OK\r\n\
+    Content-Type: application/json\r\nContent-Length: 63\r\n\r\n\
+    {\"item\":4,\"proved\":true,\"session\":0,\"state\":\"waiting\",\"step\":1}";
+
+/// Session 0 is closed.
+pub(crate) const CLOSED: &str = "HTTP/1.1 200 OK\r\n\
+    Content-Type: application/json\r\nContent-Length: 30\r\n\r\n\
+    {\"session\":0,\"state\":\"closed\"}";
+
 /// Session 1 is started without item 2: the best form is then {1, 3, 5}, and item 1 its best item.
 pub(crate) const LISTED: &str = "HTTP/1.1 201 Created\r\n\
     Content-Type: application/json\r\nContent-Length: 63\r\n\r\n\
@@ -29,6 +39,16 @@ pub(crate) const LISTED_FOUND: &str = "HTTP/1.1 200 OK\r\n\
 pub(crate) const OTHER_LIST: &str = "HTTP/1.1 409 Conflict\r\n\
     Content-Type: application/json\r\nContent-Length: 32\r\n\r\n\
     {\"error\":\"other-list\",\"value\":1}";
+
+/// The session is of another booking.
+pub(crate) const OTHER_BOOKING: &str = "HTTP/1.1 409 Conflict\r\n\
+    Content-Type: application/json\r\nContent-Length: 25\r\n\r\n\
+    {\"error\":\"other-booking\"}";
+
+/// The session was closed before.
+pub(crate) const IS_CLOSED: &str = "HTTP/1.1 409 Conflict\r\n\
+    Content-Type: application/json\r\nContent-Length: 38\r\n\r\n\
+    {\"error\":\"is-closed\",\"value\":\"closed\"}";
 
 /// The bank has six items.
 pub(crate) const NO_ITEM: &str = "HTTP/1.1 422 Unprocessable Entity\r\n\
@@ -95,6 +115,11 @@ pub(crate) const NO_LENGTH: &str = "HTTP/1.1 411 Length Required\r\n\
 pub(crate) const TOO_LONG: &str = "HTTP/1.1 413 Payload Too Large\r\n\
     Content-Type: application/json\r\nContent-Length: 20\r\nConnection: close\r\n\r\n\
     {\"error\":\"too-long\"}";
+
+/// Session 0 is closed.
+pub(crate) const LAST_CLOSED: &str = "HTTP/1.1 200 OK\r\n\
+    Content-Type: application/json\r\nContent-Length: 30\r\nConnection: close\r\n\r\n\
+    {\"session\":0,\"state\":\"closed\"}";
 
 /// The counts of bank A before a session is finished.
 pub(crate) const NO_COUNTS: &str = "HTTP/1.1 200 OK\r\n\

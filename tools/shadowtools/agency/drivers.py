@@ -232,7 +232,7 @@ class Client:
         """One whole session, if the booking finds a form."""
         told = self.begun(k, sittings)
         while told is not None and told["state"] == "waiting":
-            answer = {"step": told["step"], "response": int(sittings.responses[k][told["item"]])}
+            answer = {"step": told["step"], "response": int(sittings.responses[k][told["item"]]), "booking": k}
             told = self.asked("POST", f"/sessions/{told['session']}/answers", answer)
             self.answers += 1
         if told is not None and told["state"] != "complete":

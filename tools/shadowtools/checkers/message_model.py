@@ -162,7 +162,7 @@ def value_of(body):
         raise ValueError("deep") from fault
 
 
-MOST_ITEM = 511
+MOST_ITEM, MOST_BOOKING = 511, 2**64 - 1
 
 
 def number_of(found, most):
@@ -181,7 +181,22 @@ def items_of(value):
     return None if None in items else frozenset(items)
 
 
-ROUTES = [(rb"/sessions", b"POST", "begin", {"booking": 2**64 - 1}),
+def booking_of(value):
+    """The booking that a value names: no number where it has no such member, and None where that is
+    no booking."""
+    named = isinstance(value, dict) and "booking" in value
+    return [member(value, "booking", MOST_BOOKING)] if named else []
+
+
+def booking_of_close(body):
+    """The same of the body of a closing, which names none where it is no JSON."""
+    try:
+        return booking_of(value_of(body))
+    except ValueError:
+        return []
+
+
+ROUTES = [(rb"/sessions", b"POST", "begin", {"booking": MOST_BOOKING}),
           (rb"/sessions/(0|[1-9][0-9]*)", b"GET", "look", {}),
           (rb"/sessions/(0|[1-9][0-9]*)/answers", b"POST", "answer",
            {"step": 65535, "response": 255}),
@@ -215,5 +230,8 @@ def asked(message, token=b""):
             numbers += [member(value, name, most) for name, most in members.items()]
             listed = items_of(value)
             numbers += [listed] if kind == "begin" and listed != frozenset() else []
+            numbers += booking_of(value) if kind == "answer" else []
+        if kind == "close":
+            numbers += booking_of_close(message.body)
         return "bad-body" if None in numbers else Request(kind, numbers)
     return "no-route"

@@ -180,8 +180,8 @@ class Model:
         few = math.comb(len(problem.bank.items), problem.plan.length) <= ENUMERATED
         return few and check_tree.best_of_all(problem) is None
 
-    def answer(self, number, step, response):
-        at = self.find(number)
+    def answer(self, number, step, response, booking=None):
+        at = self.find(number, booking)
         if isinstance(at, Refusal):
             return at
         given = self.history.sessions[number].responses
@@ -198,8 +198,8 @@ class Model:
         self.need(audit.ANSWERED, number, step, response)
         return self.advance(number)
 
-    def close(self, number):
-        at = self.find(number)
+    def close(self, number, booking=None):
+        at = self.find(number, booking)
         if isinstance(at, Refusal):
             return at
         if at.state in ENDED:
@@ -214,10 +214,13 @@ class Model:
     def exposure(self):
         return Counts(self.history.finished, list(zip(self.history.shown, self.history.eligible)))
 
-    def find(self, number):
-        """The place of a session, or that there is none."""
+    def find(self, number, booking=None):
+        """The place of a session, or that there is none, or that it is of another booking than the one that is named."""
         count = len(self.history.sessions)
-        return self.place(number) if number < count else Refusal("no-session", count)
+        if number >= count:
+            return Refusal("no-session", count)
+        other = booking is not None and self.bookings.get(booking) != number
+        return Refusal("other-booking", None) if other else self.place(number)
 
 
 # ---------------------------------------------------------------- how replies are written
@@ -238,9 +241,9 @@ def lines_of(reply, rules):
     return [f"session {reply.session} {reply.state}"]
 
 
-STATUS = {"no-session": 404, "other": 409, "is-closed": 409, "wrong-step": 409, "bad-response": 422,
-          "other-list": 409, "no-item": 422, "no-form": 422, "sessions-full": 507,
-          "journal-full": 507, "disk": 503, "memory": 500}
+STATUS = {"no-session": 404, "other-booking": 409, "other": 409, "is-closed": 409,
+          "wrong-step": 409, "bad-response": 422, "other-list": 409, "no-item": 422, "no-form": 422,
+          "sessions-full": 507, "journal-full": 507, "disk": 503, "memory": 500}
 
 
 def response_of(reply):

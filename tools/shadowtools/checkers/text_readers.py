@@ -37,7 +37,8 @@ MOST = {b"count": 512, b"quantity": 33553920, b"stimuli": 64}
 # are lines as (word, numbers, set).
 Plan = namedtuple("Plan", "lines bounds rows")
 # `kind` is the first word of a line of a script, `numbers` are the others. After the booking of a
-# beginning with a list comes the set of its items.
+# beginning with a list comes the set of its items. The booking that an answer or a closing names is
+# its last number.
 Request = namedtuple("Request", "kind numbers")
 
 
@@ -227,6 +228,7 @@ def bank_text(grid: int, items: list) -> str:
 
 REQUESTS = {b"begin": [2**64 - 1], b"answer": [2**32 - 1, 65535, 255], b"close": [2**32 - 1],
             b"look": [2**32 - 1], b"exposure": []}
+NAMING = {b"answer", b"close"}  # these may end with `for` and a booking
 
 
 def begin_with_list(booking: bytes, words: Sequence[bytes]) -> Optional[Request]:
@@ -244,6 +246,9 @@ def request_of(line: bytes) -> Optional[Request]:
     if word == b"begin" and rest[1:2] == [b"without"]:
         return begin_with_list(rest[0], rest[2:])
     greatest = REQUESTS.get(word)
+    if word in NAMING and rest[len(greatest):][:1] == [b"for"]:
+        del rest[len(greatest)]
+        greatest = greatest + REQUESTS[b"begin"]
     if greatest is None or len(rest) != len(greatest):
         return None
     if not all(re.fullmatch(rb"0|[1-9][0-9]*", one) for one in rest):

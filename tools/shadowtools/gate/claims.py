@@ -79,7 +79,7 @@ CLAIMS = [
             "history_model Legal": ["Legal b plan H (Served"],
             **PLACES,
         }, "A link need allow nothing but what `fair` states, so nothing else is written to it. `IsOpenedBy` has the bank and the plan "
-           "(claim 2) and the history that was found (claim 3). What a message asks, and the replies that show no item, are in claim 4.", 169),
+           "(claim 2) and the history that was found (claim 3). What a message asks, and the replies that show no item, are in claim 4.", 170),
     ]),
     Claim("Every input has its answer", [
         Reading("of a bank, a plan and a script", {"faulty": ["command_of"], "answers": ["RunEnds"]}, {
@@ -90,7 +90,7 @@ CLAIMS = [
             "exam_program IsBaseForm": [],
             "replay_cli lines_of": [],
         }, "The other cases of `Outcome` are of commands that read the same texts by the same words (`Reads`), or of files or memory that"
-           " failed. What a replay then does is in claims 3 and 4.", 257),
+           " failed. What a replay then does is in claims 3 and 4.", 259),
     ]),
     Claim("No acknowledged answer is lost", [
         Reading("of a replay", {"left": ["IsAsLeft"], "answers": ["RunEnds"], "journal": ["RunLeaves"]}, {
@@ -129,14 +129,14 @@ CLAIMS = [
             "history_model LacksForm": [],
         }, "The other cases of `Outcome` that print replies have the same `IsUnderWay`. Why a list of items is refused (`LacksForm`) is left "
            "out: no item is shown then. Two laws follow from these definitions. The items shown in each complete session meet the plan "
-           "(`laws::complete_sessions_meet`), and none of them is on the session's list (`laws::lists_are_kept`).", 192),
+           "(`laws::complete_sessions_meet`), and none of them is on the session's list (`laws::lists_are_kept`).", 195),
         Reading("of a server, at each moment", {"fair": ["AreFairDoors", "IsOpenedBy", "IsCallerOf"]}, {
             "exam_program Reads": [],
             "exam_program IsBaseForm": [],
             "exam_office StandsSecond": [],
             "history_model LacksForm": [],
             "exam_hall Fails": [],
-        }, "`LacksForm` and `Fails` are why a request is refused or not done. `Reads` is in claim 2, and `StandsSecond` in claim 3.", 342),
+        }, "`LacksForm` and `Fails` are why a request is refused or not done. `Reads` is in claim 2, and `StandsSecond` in claim 3.", 350),
         Reading("of a server that ended", {"answers": ["RunEnds", "AreServed"]}, {
             "exam_program RunEnds": ["busy"],
             "exam_program IsServedBy": [],

@@ -7,7 +7,7 @@ import signal
 import socket
 import subprocess
 import time
-from typing import Any, List, Optional, Sequence, Tuple
+from typing import Any, Dict, List, Optional, Sequence, Tuple
 
 HEAD_END = b"\r\n\r\n"
 
@@ -35,8 +35,17 @@ def begin(booking: int, without: Sequence[int] = ()) -> bytes:
     return request_bytes("POST", "/sessions", {"booking": booking, **({"without": list(without)} if without else {})})
 
 
-def answer(session: int, step: int, response: int) -> bytes:
-    return request_bytes("POST", f"/sessions/{session}/answers", {"step": step, "response": response})
+def naming(booking: Optional[int]) -> Dict[str, int]:
+    """The member of an answer or a closing that names the booking of its session, if one is given."""
+    return {} if booking is None else {"booking": booking}
+
+
+def answer(session: int, step: int, response: int, booking: Optional[int] = None) -> bytes:
+    return request_bytes("POST", f"/sessions/{session}/answers", {"step": step, "response": response, **naming(booking)})
+
+
+def close(session: int, booking: Optional[int] = None) -> bytes:
+    return request_bytes("POST", f"/sessions/{session}/close", naming(booking) or None)
 
 
 def split_reply(data: bytes) -> Optional[Tuple[Tuple[int, Any], bytes]]:

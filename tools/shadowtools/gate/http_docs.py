@@ -126,7 +126,7 @@ def main(words):
     page_routes, page_errors, examples = page_tables()
     schema_routes, schema_errors, words = schema_tables()
     held = [
-        len(routes) == 6 and len(errors) == 21,
+        len(routes) == 6 and len(errors) == 22,
         compare("docs/HTTP.md", routes, page_routes),
         compare("docs/HTTP.md", errors, page_errors),
         compare("docs/HTTP.md, examples by curl,", routes, examples),

@@ -95,7 +95,7 @@ class Client(threading.Thread):
         reply = self.ask(begin(self.booking), 200, 201)
         while reply["state"] == "waiting":
             session, step, response = reply["session"], reply["step"], self.draw.randrange(2)
-            reply = self.ask(answer(session, step, response), 200)
+            reply = self.ask(answer(session, step, response, self.booking), 200)
             self.answers.append(Answer(self.ask(HEALTH, 200)["entries"], session, step, response))
             time.sleep(self.draw.random() * PAUSE)
         if reply["state"] != "complete":

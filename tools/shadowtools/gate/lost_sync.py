@@ -301,7 +301,7 @@ class Examination:
     def session(self, booking):
         place = self.ask(exam_client.begin(booking))
         while place["state"] == "waiting":
-            place = self.ask(exam_client.answer(place["session"], place["step"], 1))
+            place = self.ask(exam_client.answer(place["session"], place["step"], 1, booking))
         self.complete[booking] = place["session"]
 
 

@@ -99,7 +99,7 @@ class Client(threading.Thread):
             connection = Connection(("127.0.0.1", self.port), LIMIT)
             place = self.ask(connection, begin(self.booking))
             while place["state"] == "waiting":
-                place = self.ask(connection, answer(place["session"], place["step"], 1))
+                place = self.ask(connection, answer(place["session"], place["step"], 1, self.booking))
             connection.close()
         except (Lost, RuntimeError, ValueError, OSError) as fault:
             self.fault = repr(fault)

@@ -176,7 +176,7 @@ def session_on(address, known):
             known[place.get("step", 3)] = place.get("item")
             if place["state"] != "waiting":
                 return True
-            status, place = connection.ask(answer(place["session"], place["step"], 1))
+            status, place = connection.ask(answer(place["session"], place["step"], 1, 70))
         return False
     finally:
         connection.close()

@@ -90,7 +90,7 @@ class Client:
         while place["state"] == "waiting":
             step, response = place["step"], self.draw.randrange(2)
             self.load.shown[(session, place["item"])] += 1
-            status, place = self.ask(answer(session, step, response))
+            status, place = self.ask(answer(session, step, response, booking))
             if status != 200 or (place["state"] == "waiting" and place["step"] != step + 1):
                 raise RuntimeError(f"answer {session} {step} {response}: {status} {place}")
             self.load.answers[session, step] = response

@@ -216,18 +216,19 @@ def requests(draw, number, length, begun=0, lists=True):
     or say something again.
 
     `begun` sessions are there already. Responses of 0 and 1 are in each item's range. Sessions have lists of items that the
-    examinee must not get, unless `lists` is false: version 1 of a journal has none."""
-    steps = [0] * begun
+    examinee must not get, unless `lists` is false: version 1 of a journal has none. Some answers name a booking, most of these their own."""
+    steps, owners = [0] * begun, list(range(1, begun + 1))
     for _ in range(number):
         chance, open_ones = draw.random(), [s for s, step in enumerate(steps) if step < length]
         if not steps or chance < 0.15:
             steps.append(0)
             count = len(steps)
             old, far = draw.randrange(1, count + 1), 2**64 - count
-            yield f"begin {draw.choice([count, count, far, old])}{listed(draw) if lists else ''}"
+            owners.append(draw.choice([count, count, far, old]))
+            yield f"begin {owners[-1]}{listed(draw) if lists else ''}"
         elif chance < 0.75 and open_ones:
             session = draw.choice(open_ones)
-            yield f"answer {session} {steps[session]} {draw.randrange(2)}"
+            yield f"answer {session} {steps[session]} {draw.randrange(2)}{named(draw, owners[session])}"
             steps[session] += 1
         else:
             yield odd_request(draw, len(steps), length, lists)
@@ -237,11 +238,17 @@ def odd_request(draw, sessions, length, lists):
     """A request that is often refused, or one that asks and adds nothing."""
     session = draw.choice([draw.randrange(sessions), draw.randrange(sessions), sessions, 2**32 - 1])
     step = draw.choice([draw.randrange(length + 1), draw.randrange(length + 1), 65535])
-    return draw.choice([f"answer {session} {step} {draw.choice([0, 1, 2, 3, 255])}",
-                        f"answer {session} {step} {draw.randrange(2)}",
-                        f"look {session}", f"look {session}", f"close {session}", "exposure",
+    booking = draw.choice([session + 1, session + 1, draw.randrange(1, sessions + 1)])
+    return draw.choice([f"answer {session} {step} {draw.choice([0, 1, 2, 3, 255])}{named(draw, booking)}",
+                        f"answer {session} {step} {draw.randrange(2)}{named(draw, booking)}",
+                        f"look {session}", f"look {session}", f"close {session}{named(draw, booking)}", "exposure",
                         f"begin {draw.randrange(2**64)}",
                         f"begin {draw.randrange(1, sessions + 1)}{listed(draw) if lists else ''}"])
+
+
+def named(draw, booking):
+    """The words that name a booking, most often this one, or most often none."""
+    return f" for {draw.choice([booking] * 5 + [booking - 1, 2**64 - 1])}" if draw.random() < 0.4 else ""
 
 
 def listed(draw):
@@ -260,7 +267,8 @@ def json_of(draw, members):
     pairs = [f'"{name}":{value}' for name, value in members.items()]
     if draw.random() < 0.15:
         pairs.insert(draw.randrange(len(pairs) + 1), draw.choice(
-            ['"note":[1,{"a":null}]', '"step":"7"', '"booking":1.5', '"response":-1', '"x":1e400',
+            ['"note":[1,{"a":null}]', '"step":"7"', '"booking":1.5', '"booking":null', '"booking":"1"',
+             '"booking":1', '"booking":18446744073709551616', '"Booking":1', '"response":-1', '"x":1e400',
              '"without":null', '"without":[]', '"without":[1,1.0]', '"without":[[1]]', '"without":"1"',
              '"without":[512]', '"without":[0,0]', '"Without":[1]', '"without":{"0":1}', '"without":1',
              '"x":"\\n"', '"deep":' + "[" * 126 + "]" * 126, '"deep":' + "[" * 127 + "]" * 127]))
@@ -305,9 +313,10 @@ def message(draw, line, right=b""):
         method, path, body = "POST", "/sessions", json_of(draw, begin_members(draw, numbers))
     elif kind == "answer":
         method, path = "POST", f"/sessions/{numbers[0]}/answers"
-        body = json_of(draw, {"step": numbers[1], "response": numbers[2]})
+        body = json_of(draw, {"step": numbers[1], "response": numbers[2], **booking_member(numbers[3:])})
     elif kind == "close":
         method, path = "POST", f"/sessions/{numbers[0]}/close"
+        body = close_body(draw, booking_member(numbers[1:]))
     elif kind == "look":
         path = f"/sessions/{numbers[0]}"
     if draw.random() < 0.04:
@@ -316,6 +325,18 @@ def message(draw, line, right=b""):
         path = draw.choice(["/", "/sessions/", path + "/", "/sessions/01", "/sessions/4294967296",
                             "/exposure?a=1?b", "*", "//exposure", path.upper()])
     return head_of(draw, method, path, len(body), authorization(draw, right)) + body
+
+
+def booking_member(words):
+    """The member that names the booking of these words, which are `for` and the booking, or none."""
+    return {"booking": words[1]} if words else {}
+
+
+def close_body(draw, members):
+    """The body of a closing with these members: of one that names no booking most often none, or one that is no JSON or no object."""
+    if members or draw.random() < 0.2:
+        return json_of(draw, members)
+    return draw.choice([b""] * 6 + [b"{", b"[7]", b'"7"', b'{"booking":7', b"\xff"])
 
 
 def begin_members(draw, words):

@@ -365,11 +365,16 @@ class Facts:
         else:
             right = status == 200 and request.numbers[0] == number
         if request.kind == "answer":
-            _, step, response = request.numbers
+            step, response = request.numbers[1:3]
             right = right and self.sessions[number].responses[step:step + 1] == [response]
         if request.kind == "close":
             right = right and body["state"] == "closed"
-        return right and self.placed(body)
+        return right and not self.is_other(request) and self.placed(body)
+
+    def is_other(self, request):
+        """Whether a request names another booking than that of its session."""
+        named = request.numbers[{"answer": 3, "close": 1}.get(request.kind, 9):]
+        return bool(named) and self.model.bookings.get(named[0]) != request.numbers[0]
 
     def placed(self, body):
         """Whether a session was at this place at some time."""
@@ -395,9 +400,11 @@ class Facts:
             booking, *listed = request.numbers
             return bool(listed) and self.list_refused(booking, *listed, word, value)
         session = self.sessions[request.numbers[0]]
+        if word == "other-booking" or self.is_other(request):
+            return word == "other-booking" and self.is_other(request) and value is None
         if word == "is-closed":
             return self.model.place(request.numbers[0]).state == value
-        _, step, response = request.numbers
+        step, response = request.numbers[1:3]
         if word == "other":
             return session.responses[step] == value != response
         if word == "bad-response":

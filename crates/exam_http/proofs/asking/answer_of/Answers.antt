@@ -5,7 +5,3 @@ use Rattle.exam_http.proofs.asking.answer_of.Goals as goal
 pub returns-in-Err-number_member : goal.returns-in-Err-number_member
 unfolding answer_of
 returns-in-Err-number_member c = search rules
-
-pub returns-in-Ok-number_member : goal.returns-in-Ok-number_member
-unfolding answer_of
-returns-in-Ok-number_member c = search rules

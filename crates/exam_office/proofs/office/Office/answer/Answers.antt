@@ -26,6 +26,7 @@ returns-in-Err-clause-call g c =
     let s = c.args.session in
     let k = c.args.step in
     let r = c.args.response in
+    let named = c.args.booking in
     let H = history mid.marks in
     unmended c.in-Err.refusal c.in-Err.ensures.refused
 
@@ -36,8 +37,9 @@ returns-in-Err-clause-moments g c =
     let s = c.args.session in
     let k = c.args.step in
     let r = c.args.response in
+    let named = c.args.booking in
     let H = history mid.marks in
-    λ told. mending_left old.bank old.plan (FindsAnswer old.bank old.plan s k r) (history old.marks) old.doubt (accounts_of old.journal) (accounts_of mid.journal) (c.settle.ensures.moments told)
+    λ told. mending_left old.bank old.plan (FindsAnswer old.bank old.plan s k r named) (history old.marks) old.doubt (accounts_of old.journal) (accounts_of mid.journal) (c.settle.ensures.moments told)
 
 pub returns-in-Err-find_answer-clause-call : goal.returns-in-Err-find_answer-clause-call
 returns-in-Err-find_answer-clause-call g c =
@@ -46,8 +48,9 @@ returns-in-Err-find_answer-clause-call g c =
     let s = c.args.session in
     let k = c.args.step in
     let r = c.args.response in
+    let named = c.args.booking in
     let H = history mid.marks in
-    call_refused (FindsAnswer old.bank old.plan s k r) old mid mid c.settle.ensures.same c.in-Ok.ensures.sure c.in-Ok.ensures.mended c.in-Err-find_answer.refusal (finds_there old mid c.settle.ensures.same (λ (b : Tables) (plan : Plan). FindsAnswer b plan s k r) H (refuse c.in-Err-find_answer.refusal) c.in-Err-find_answer.ensures.refused)
+    call_refused (FindsAnswer old.bank old.plan s k r named) old mid mid c.settle.ensures.same c.in-Ok.ensures.sure c.in-Ok.ensures.mended c.in-Err-find_answer.refusal (finds_there old mid c.settle.ensures.same (λ (b : Tables) (plan : Plan). FindsAnswer b plan s k r named) H (refuse c.in-Err-find_answer.refusal) c.in-Err-find_answer.ensures.refused)
 
 pub returns-in-Err-find_answer-clause-moments : goal.returns-in-Err-find_answer-clause-moments
 returns-in-Err-find_answer-clause-moments g c =
@@ -56,8 +59,9 @@ returns-in-Err-find_answer-clause-moments g c =
     let s = c.args.session in
     let k = c.args.step in
     let r = c.args.response in
+    let named = c.args.booking in
     let H = history mid.marks in
-    λ told. left_mending (FindsAnswer old.bank old.plan s k r) old mid mid c.settle.ensures.same c.in-Ok.ensures.sure c.in-Ok.ensures.mended (c.settle.ensures.moments told)
+    λ told. left_mending (FindsAnswer old.bank old.plan s k r named) old mid mid c.settle.ensures.same c.in-Ok.ensures.sure c.in-Ok.ensures.mended (c.settle.ensures.moments told)
 
 pub returns-in-Ok-true-clause-moments : goal.returns-in-Ok-true-clause-moments
 returns-in-Ok-true-clause-moments g c =
@@ -66,8 +70,9 @@ returns-in-Ok-true-clause-moments g c =
     let s = c.args.session in
     let k = c.args.step in
     let r = c.args.response in
+    let named = c.args.booking in
     let H = history mid.marks in
-    λ told. left_mending (FindsAnswer old.bank old.plan s k r) old mid mid c.settle.ensures.same c.in-Ok.ensures.sure c.in-Ok.ensures.mended (c.settle.ensures.moments told)
+    λ told. left_mending (FindsAnswer old.bank old.plan s k r named) old mid mid c.settle.ensures.same c.in-Ok.ensures.sure c.in-Ok.ensures.mended (c.settle.ensures.moments told)
 
 pub returns-in-Ok-true-clause-call : goal.returns-in-Ok-true-clause-call
 returns-in-Ok-true-clause-call g c =
@@ -76,12 +81,13 @@ returns-in-Ok-true-clause-call g c =
     let s = c.args.session in
     let k = c.args.step in
     let r = c.args.response in
+    let named = c.args.booking in
     let H = history mid.marks in
-    let found : IsAnswerFound mid.bank mid.plan H s k r true = rw c.in-Ok-true.field-0-test at c.in-Ok-true.ensures.found in
-    let stands = answer_stands mid.bank mid.plan H s k r found.0 in
-    subst (λ (o : Option Refusal). Calls (FindsAnswer old.bank old.plan s k r) old mid o)
+    let found : IsAnswerFound mid.bank mid.plan H s k r named true = rw c.in-Ok-true.field-0-test at c.in-Ok-true.ensures.found in
+    let stands = answer_stands mid.bank mid.plan H s k r named found.0 in
+    subst (λ (o : Option Refusal). Calls (FindsAnswer old.bank old.plan s k r named) old mid o)
     (looked mid.bank mid.plan H s stands.0 c.look.result stands.1 c.look.ensures.refused)
-    (call_found (FindsAnswer old.bank old.plan s k r) old mid mid c.settle.ensures.same c.in-Ok.ensures.sure c.in-Ok.ensures.mended (finds_there old mid c.settle.ensures.same (λ (b : Tables) (plan : Plan). FindsAnswer b plan s k r) H nothing found))
+    (call_found (FindsAnswer old.bank old.plan s k r named) old mid mid c.settle.ensures.same c.in-Ok.ensures.sure c.in-Ok.ensures.mended (finds_there old mid c.settle.ensures.same (λ (b : Tables) (plan : Plan). FindsAnswer b plan s k r named) H nothing found))
 
 pub returns-in-Ok-write-clause-call : goal.returns-in-Ok-write-clause-call
 returns-in-Ok-write-clause-call g c =
@@ -90,16 +96,17 @@ returns-in-Ok-write-clause-call g c =
     let s = c.args.session in
     let k = c.args.step in
     let r = c.args.response in
+    let named = c.args.booking in
     let H = history mid.marks in
     let new = c.write.new.self in
     let entry = Answered s k r in
-    let found : IsAnswerFound mid.bank mid.plan H s k r false = rw c.in-Ok-false.field-0-test at c.in-Ok-false.ensures.found in
+    let found : IsAnswerFound mid.bank mid.plan H s k r named false = rw c.in-Ok-false.field-0-test at c.in-Ok-false.ensures.found in
     let rec : Record = record { entry = entry; tree = None } in
-    let stood = answer_stands mid.bank mid.plan H s k r found.0 in
+    let stood = answer_stands mid.bank mid.plan H s k r named found.0 in
     let stands = stands_written mid.plan mid.marks new.marks entry (with_record mid.marks rec) s stood.0 stood.1 c.in-Ok-write.ensures.written in
-    subst (λ (o : Option Refusal). Calls (FindsAnswer old.bank old.plan s k r) old new o)
+    subst (λ (o : Option Refusal). Calls (FindsAnswer old.bank old.plan s k r named) old new o)
     (looked new.bank new.plan (history new.marks) s stands.0 c.look-in-Ok-write.result (subst (λ (p : Plan). Rattle.history_model.specs.Places.place p (history new.marks) s ≡ Some stands.0) (sym c.write.ensures.same.plan) stands.1) c.look-in-Ok-write.ensures.refused)
-    (call_written (FindsAnswer old.bank old.plan s k r) old mid new c.settle.ensures.same c.in-Ok.ensures.sure c.in-Ok.ensures.mended entry (with_record mid.marks rec) (finds_there old mid c.settle.ensures.same (λ (b : Tables) (plan : Plan). FindsAnswer b plan s k r) H (add entry) found) c.in-Ok-write.ensures.written c.in-Ok-write.ensures.sure)
+    (call_written (FindsAnswer old.bank old.plan s k r named) old mid new c.settle.ensures.same c.in-Ok.ensures.sure c.in-Ok.ensures.mended entry (with_record mid.marks rec) (finds_there old mid c.settle.ensures.same (λ (b : Tables) (plan : Plan). FindsAnswer b plan s k r named) H (add entry) found) c.in-Ok-write.ensures.written c.in-Ok-write.ensures.sure)
 
 pub returns-in-Err-write-clause-call : goal.returns-in-Err-write-clause-call
 returns-in-Err-write-clause-call g c =
@@ -108,12 +115,13 @@ returns-in-Err-write-clause-call g c =
     let s = c.args.session in
     let k = c.args.step in
     let r = c.args.response in
+    let named = c.args.booking in
     let H = history mid.marks in
     let new = c.write.new.self in
     let entry = Answered s k r in
-    let found : IsAnswerFound mid.bank mid.plan H s k r false = rw c.in-Ok-false.field-0-test at c.in-Ok-false.ensures.found in
+    let found : IsAnswerFound mid.bank mid.plan H s k r named false = rw c.in-Ok-false.field-0-test at c.in-Ok-false.ensures.found in
     let rec : Record = record { entry = entry; tree = None } in
-    call_unwritten (FindsAnswer old.bank old.plan s k r) old mid new c.settle.ensures.same c.in-Ok.ensures.sure c.in-Ok.ensures.mended rec c.in-Err-write.refusal (finds_there old mid c.settle.ensures.same (λ (b : Tables) (plan : Plan). FindsAnswer b plan s k r) H (add entry) found) c.settle.ensures.frame.grows (found.3, refl) c.in-Err-write.ensures.refused
+    call_unwritten (FindsAnswer old.bank old.plan s k r named) old mid new c.settle.ensures.same c.in-Ok.ensures.sure c.in-Ok.ensures.mended rec c.in-Err-write.refusal (finds_there old mid c.settle.ensures.same (λ (b : Tables) (plan : Plan). FindsAnswer b plan s k r named) H (add entry) found) c.settle.ensures.frame.grows (found.3, refl) c.in-Err-write.ensures.refused
 
 pub returns-in-Ok-write-clause-moments : goal.returns-in-Ok-write-clause-moments
 returns-in-Ok-write-clause-moments g c =
@@ -122,12 +130,13 @@ returns-in-Ok-write-clause-moments g c =
     let s = c.args.session in
     let k = c.args.step in
     let r = c.args.response in
+    let named = c.args.booking in
     let H = history mid.marks in
     let new = c.write.new.self in
     let entry = Answered s k r in
-    let found : IsAnswerFound mid.bank mid.plan H s k r false = rw c.in-Ok-false.field-0-test at c.in-Ok-false.ensures.found in
+    let found : IsAnswerFound mid.bank mid.plan H s k r named false = rw c.in-Ok-false.field-0-test at c.in-Ok-false.ensures.found in
     let rec : Record = record { entry = entry; tree = None } in
-    λ told. left_writing (FindsAnswer old.bank old.plan s k r) old mid new c.settle.ensures.same c.in-Ok.ensures.sure c.in-Ok.ensures.mended entry (finds_there old mid c.settle.ensures.same (λ (b : Tables) (plan : Plan). FindsAnswer b plan s k r) H (add entry) found) (c.settle.ensures.moments told) (c.write.ensures.moments (subst (λ (b : Rattle.std.specs.Prelude.Bool). Rattle.std.specs.Bool.IsTrue b) (sym c.settle.ensures.frame.tells) told))
+    λ told. left_writing (FindsAnswer old.bank old.plan s k r named) old mid new c.settle.ensures.same c.in-Ok.ensures.sure c.in-Ok.ensures.mended entry (finds_there old mid c.settle.ensures.same (λ (b : Tables) (plan : Plan). FindsAnswer b plan s k r named) H (add entry) found) (c.settle.ensures.moments told) (c.write.ensures.moments (subst (λ (b : Rattle.std.specs.Prelude.Bool). Rattle.std.specs.Bool.IsTrue b) (sym c.settle.ensures.frame.tells) told))
 
 pub returns-in-Err-write-clause-moments : goal.returns-in-Err-write-clause-moments
 returns-in-Err-write-clause-moments g c =
@@ -136,17 +145,18 @@ returns-in-Err-write-clause-moments g c =
     let s = c.args.session in
     let k = c.args.step in
     let r = c.args.response in
+    let named = c.args.booking in
     let H = history mid.marks in
     let new = c.write.new.self in
     let entry = Answered s k r in
-    let found : IsAnswerFound mid.bank mid.plan H s k r false = rw c.in-Ok-false.field-0-test at c.in-Ok-false.ensures.found in
+    let found : IsAnswerFound mid.bank mid.plan H s k r named false = rw c.in-Ok-false.field-0-test at c.in-Ok-false.ensures.found in
     let rec : Record = record { entry = entry; tree = None } in
-    λ told. left_writing (FindsAnswer old.bank old.plan s k r) old mid new c.settle.ensures.same c.in-Ok.ensures.sure c.in-Ok.ensures.mended entry (finds_there old mid c.settle.ensures.same (λ (b : Tables) (plan : Plan). FindsAnswer b plan s k r) H (add entry) found) (c.settle.ensures.moments told) (c.write.ensures.moments (subst (λ (b : Rattle.std.specs.Prelude.Bool). Rattle.std.specs.Bool.IsTrue b) (sym c.settle.ensures.frame.tells) told))
+    λ told. left_writing (FindsAnswer old.bank old.plan s k r named) old mid new c.settle.ensures.same c.in-Ok.ensures.sure c.in-Ok.ensures.mended entry (finds_there old mid c.settle.ensures.same (λ (b : Tables) (plan : Plan). FindsAnswer b plan s k r named) H (add entry) found) (c.settle.ensures.moments told) (c.write.ensures.moments (subst (λ (b : Rattle.std.specs.Prelude.Bool). Rattle.std.specs.Bool.IsTrue b) (sym c.settle.ensures.frame.tells) told))
 
 pub write-requires-clause-may : goal.write-requires-clause-may
 write-requires-clause-may g c =
     let mid = c.settle.new.self in
-    let found : IsAnswerFound mid.bank mid.plan (history mid.marks) c.args.session c.args.step c.args.response false = rw c.in-Ok-false.field-0-test at c.in-Ok-false.ensures.found in
+    let found : IsAnswerFound mid.bank mid.plan (history mid.marks) c.args.session c.args.step c.args.response c.args.booking false = rw c.in-Ok-false.field-0-test at c.in-Ok-false.ensures.found in
     (found.3, refl)
 
 -- what a crash leaves once the record is written
