@@ -18,6 +18,7 @@ from shadowtools.checkers import journal_move
 
 LIMIT = 60  # seconds for each wait
 LINE = "shadowd: journal {}: {}\n"
+MADE = "there was none: it is made"
 BEGIN, *ANSWERS = SCRIPT.splitlines()[:4]
 
 
@@ -47,15 +48,15 @@ class WithJournal(Folder):
         with open(path, "rb") as file:
             return file.read()
 
-    def run_program(self, command, *words, name=None):
+    def run_program(self, command, *words, name=None, **settings):
         """Status, standard output and standard error."""
-        done = subprocess.run([PROGRAM, command, *self.files, *words], env=dict(os.environ, SHADOWD_JOURNAL=name or self.journal),
+        done = subprocess.run([PROGRAM, command, *self.files, *words], env=dict(os.environ, SHADOWD_JOURNAL=name or self.journal, **settings),
                               stdin=subprocess.DEVNULL, capture_output=True, text=True, timeout=LIMIT)
         return done.returncode, done.stdout, done.stderr
 
-    def replay(self, *requests, name=None):
+    def replay(self, *requests, name=None, **settings):
         script = self.write("script.txt", "".join(request + "\n" for request in requests))
-        return self.run_program("replay", script, name=name)
+        return self.run_program("replay", script, name=name, **settings)
 
     def kept_after(self, *requests):
         """The bytes of a new journal after these requests."""
@@ -74,7 +75,7 @@ class Rights(WithJournal):
     def test_a_new_journal_is_its_owners_alone(self):
         before = os.umask(0)
         self.addCleanup(os.umask, before)
-        self.assertEqual(self.replay(), (0, "", ""))
+        self.assertEqual(self.replay(), (0, "", LINE.format(self.journal, MADE)))
         self.assertEqual(stat.S_IMODE(os.stat(self.journal).st_mode), 0o600)
 
     def test_rights_of_others_have_a_line(self):
@@ -84,6 +85,79 @@ class Rights(WithJournal):
                 wanted = LINE.format(self.journal, f"its mode is 0{mode:o}: other users have rights to it")
                 self.assertEqual(self.replay(), (0, "", wanted))
                 self.assertEqual(stat.S_IMODE(os.stat(self.journal).st_mode), mode)
+
+
+@needs_program
+class Made(WithJournal):
+    """A journal that is not there is made where SHADOWD_MAKE allows it, and no other."""
+
+    NONE = "there is none, and SHADOWD_MAKE=no makes none"
+    SHORT = "it is too short for a journal, and SHADOWD_MAKE=no makes none"
+    FAILED = "disk failed\n"
+
+    def end_of(self, command, **settings):
+        """What a command of no requests and no connections does. A follower goes on where it opened its journal, and is stopped then."""
+        settings = {"SHADOWD_LISTEN": "127.0.0.1:0", "SHADOWD_CONNECTIONS": "0", **settings}
+        if command == "replay":
+            return self.replay(**settings)
+        try:
+            return self.run_program(command, **settings)
+        except subprocess.TimeoutExpired:
+            self.fail(f"{command} does not end")
+
+    def test_it_is_made_and_a_line_says_so(self):
+        for value in (None, "", "yes"):
+            for command in ("serve", "replay"):
+                with self.subTest(value=value, command=command):
+                    status, _, errors = self.end_of(command, **({} if value is None else {"SHADOWD_MAKE": value}))
+                    self.assertEqual((status, errors.count(LINE.format(self.journal, MADE)), self.bytes_of(self.journal)), (0, 1, b"SHADOWJ2\0"))
+                    self.assertEqual(self.end_of(command)[2].count(MADE), 0)
+                    os.remove(self.journal)
+
+    def test_none_is_made(self):
+        for value in ("no", "No", "YES", "0"):
+            for command in ("serve", "replay", "follow"):
+                with self.subTest(value=value, command=command):
+                    status, said, errors = self.end_of(command, SHADOWD_MAKE=value)
+                    *before, last = errors.splitlines(keepends=True)
+                    self.assertEqual((status, said, last), (9, self.FAILED, LINE.format(self.journal, self.NONE)))
+                    told = f"shadowd: SHADOWD_MAKE={value} counts as no: it is neither yes nor no\n"
+                    self.assertEqual([line for line in before if "SHADOWD_MAKE" in line], [] if value == "no" else [told])
+                    self.assertFalse(os.path.exists(self.journal))
+
+    def test_no_reserve_is_made_where_no_journal_is(self):
+        self.assertEqual(self.end_of("serve", SHADOWD_MAKE="no", SHADOWD_RESERVE="65536")[0], 9)
+        self.assertEqual([name for name in os.listdir(self.folder) if "journal" in name], [])
+
+    def test_a_line_that_is_too_long_is_cut(self):
+        name = "/".join([self.folder] + ["a" * 200] * 6 + ["journal"])
+        status, _, errors = self.run_program("serve", name=name, SHADOWD_MAKE="no", SHADOWD_CONNECTIONS="0", SHADOWD_LISTEN="127.0.0.1:0")
+        self.assertEqual((status, len(errors), errors[-5:]), (9, 1024, "a...\n"))
+
+    def test_a_file_that_is_too_short_is_left(self):
+        for data in (b"", b"abc", b"SHADOWJ2"):
+            for command in ("serve", "replay", "follow"):
+                with self.subTest(data=data, command=command):
+                    self.put(data)
+                    status, said, errors = self.end_of(command, SHADOWD_MAKE="no")
+                    self.assertEqual((status, said, errors.splitlines(keepends=True)[-1]), (9, self.FAILED, LINE.format(self.journal, self.SHORT)))
+                    self.assertEqual(self.bytes_of(self.journal), data)
+            self.put(data)
+            self.assertEqual(self.replay(), (0, "", LINE.format(self.journal, f"no journal was in its {len(data)} bytes: it is made")))
+
+    def test_a_journal_without_entries_is_one(self):
+        self.put(b"SHADOWJ2\0")
+        self.assertEqual(self.replay(SHADOWD_MAKE="no"), (0, "", ""))
+        self.assertEqual(self.end_of("serve", SHADOWD_MAKE="no")[0], 0)
+
+    def test_other_commands_do_not_ask(self):
+        for command in ("audit", "migrate", "ship"):
+            for value in ("yes", "no", "No"):
+                with self.subTest(command=command, value=value):
+                    status, said, errors = self.run_program(command, SHADOWD_MAKE=value, SHADOWD_FOLLOWER="127.0.0.1:9")
+                    self.assertEqual((status, said, errors), (9, self.FAILED, LINE.format(self.journal, "No such file or directory (os error 2)")))
+                    self.assertFalse(os.path.exists(self.journal))
+        self.assertEqual(self.run_program("assemble", SHADOWD_MAKE="No")[2], "")
 
 
 @needs_program
@@ -257,7 +331,8 @@ class Moved(WithJournal):
         for data in (b"", b"SHADOWJ1\0", b"any bytes"):
             self.put(data)
             self.assertEqual(self.run_program("migrate"), (0, f"migrated 0 records length {len(data)}\n", ""))
-            self.assertEqual((self.bytes_of(self.journal), self.replay(), self.bytes_of(self.journal)), (data, (0, "", ""), b"SHADOWJ2\0"))
+            told = LINE.format(self.journal, "no journal was in its 0 bytes: it is made") if not data else ""
+            self.assertEqual((self.bytes_of(self.journal), self.replay(), self.bytes_of(self.journal)), (data, (0, "", told), b"SHADOWJ2\0"))
 
     def test_there_is_no_room(self):
         for limit, wanted in ((len(self.moved), (0, self.said, "")),
@@ -362,7 +437,7 @@ class Limited(WithJournal):
         done = subprocess.run(limit, env=dict(os.environ, SHADOWD_JOURNAL=self.journal), stdin=subprocess.DEVNULL,
                               capture_output=True, text=True, timeout=LIMIT, preexec_fn=ignore_the_signal)
         self.assertEqual((done.returncode, done.stdout.splitlines()[-1]), (9, "disk failed"))
-        self.assertEqual(done.stderr, LINE.format(self.journal, "File too large (os error 27)"))
+        self.assertEqual(done.stderr, LINE.format(self.journal, MADE) + LINE.format(self.journal, "File too large (os error 27)"))
 
 
 def ignore_the_signal():

@@ -39,6 +39,8 @@ class Serving(Folder):
 
     def port(self, line, entries=0, sessions=0):
         """The port, of the line on the address, which comes after this one on the journal that was read."""
+        if line == f"shadowd: journal {self.path('journal')}: there was none: it is made\n":
+            line = self.server.stderr.readline()
         read = f"shadowd: journal {self.path('journal')}: {entries} entries, {sessions} sessions, read "
         self.assertRegex(line, rf"\A{re.escape(read)}\d+\.\d{{3}} seconds after the start\n\Z")
         line = self.server.stderr.readline()

@@ -37,7 +37,7 @@ const whole = async origin => {
 class Service(Folder):
     """A run of `serve` on a free port of the loopback address, which has no end of its own."""
 
-    def start(self, workers=2, token="", front=(), files=None):
+    def start(self, workers=2, token="", front=(), files=None, connections=""):
         """Starts the server, and gives its port, or None if it ends first. `self.lines` has standard error up to there; `front` is a
         command that runs the program."""
         environment = dict(os.environ, SHADOWD_JOURNAL=self.path("journal"), SHADOWD_LISTEN="127.0.0.1:0", SHADOWD_WORKERS=str(workers))
@@ -45,6 +45,8 @@ class Service(Folder):
             environment.pop(name, None)
         if token:
             environment["SHADOWD_TOKEN"] = token
+        if connections:
+            environment["SHADOWD_CONNECTIONS"] = connections
         self.server = subprocess.Popen([*front, PROGRAM, "serve", *(files or FILES)], env=environment, stdin=subprocess.DEVNULL,
                                        stdout=subprocess.PIPE, stderr=subprocess.PIPE, text=True)
         watch = threading.Timer(LIMIT, self.server.kill)
@@ -242,22 +244,21 @@ class Health(Service):
         self.assertEqual(self.asked(port, path="/health/"), (404, {"error": "no-route"}))
 
     def test_workers_that_are_busy(self):
-        """A client within a message holds a worker, and one between two messages does not. A worker that finds a new connection and a part of a
-        message at the same moment may keep that connection waiting until the message is too late. A look is seldom such a connection, so the
-        client within a message tries some times."""
+        """A client between two messages holds no worker, and one within a message neither. With a number of connections each connection holds one."""
         port = self.start(workers=3)
         idle = self.connected(port)
         idle.sendall(b"GET /sessions/9 HTTP/1.1\r\n\r\n")
         self.assertTrue(idle.recv(4096))
-        for _ in range(5):
-            within = self.connected(port)
-            within.sendall(b"GET /sessions/9")
-            time.sleep(0.5)  # its worker has the part by then
-            held = self.becomes(port, 2, 4)  # a message in parts has five seconds between its bytes
-            within.close()
-            if held:
-                break
-        self.assertTrue(held)
+        self.connected(port).sendall(b"GET /sessions/9")
+        time.sleep(0.5)  # its worker has the part by then
+        self.assertEqual(self.asked(port)[1]["busy"], 1)
+        self.stop(self.server)
+        os.remove(self.path("journal"))
+        port = self.start(workers=3, connections="100")
+        within = self.connected(port)
+        within.sendall(b"GET /sessions/9")
+        self.assertTrue(self.becomes(port, 2, 4))  # a message in parts has five seconds between its bytes
+        within.close()
         self.assertTrue(self.becomes(port, 1, LIMIT))
 
     def connected(self, port):
@@ -326,7 +327,8 @@ class Lines(Service):
     def test_the_journal_and_then_the_address(self):
         self.start()
         read = rf"shadowd: journal {re.escape(self.path('journal'))}: 0 entries, 0 sessions, read \d+\.\d\d\d seconds after the start\n"
-        self.assertRegex("".join(self.lines), rf"\A{read}shadowd: listening on 127\.0\.0\.1:\d+, journal {re.escape(self.path('journal'))}\n\Z")
+        made = rf"shadowd: journal {re.escape(self.path('journal'))}: there was none: it is made\n"
+        self.assertRegex("".join(self.lines), rf"\A{made}{read}shadowd: listening on 127\.0\.0\.1:\d+, journal {re.escape(self.path('journal'))}\n\Z")
 
     def test_most_of_the_sessions(self):
         """Of five sessions four are 80 of 100, and the fifth is above 95; each level has one line."""

@@ -1,3 +1,4 @@
+pub mod Connection
 pub mod FaultCount
 pub mod FileWatch
 pub mod HostDisk

@@ -3,6 +3,7 @@
 ghost use Rattle.std.specs.Prelude.{◌≢◌, ◌≤◌, length, IfOk, IfErr};
 ghost use Rattle.std.specs.IoError.{error_kind};
 
+use crate::Lines;
 use crate::trouble::Trouble;
 use std::fs::File;
 use std::io::{ErrorKind, Read, Write};
@@ -113,17 +114,21 @@ pub fn accept_once(listener: &TcpListener) -> io::Result<Accepted> {
 }
 
 /// The next connection of a listener. An error that passes is waited out, and is told once.
-pub fn accept_again(rt: &HostRuntime, listener: &TcpListener) -> io::Result<TcpStream> {
+pub fn accept_again(
+    rt: &HostRuntime,
+    lines: &Lines,
+    listener: &TcpListener,
+) -> io::Result<TcpStream> {
     let mut trouble = Trouble::none();
     for _ in 0..u64::MAX {
         match accept_once(listener)? {
             Accepted::Stream(stream) => {
-                trouble.end(rt);
+                trouble.end(lines);
                 return Ok(stream);
             }
             Accepted::Nothing => thread::sleep(rt, Duration::from_millis(PAUSE)),
             Accepted::Passing(cause) => {
-                trouble.begin(rt, &cause);
+                trouble.begin(lines, &cause);
                 thread::sleep(rt, Duration::from_millis(PAUSE));
             }
         }

@@ -11,6 +11,7 @@ use crate::closing::Closing;
 use crate::fault_count::FaultCount;
 use crate::health::Health;
 use crate::journal_file::{Access, JournalFile};
+use crate::{Lines, Reserve};
 use exam_edge::{Disk, Failed};
 use std::io;
 
@@ -31,27 +32,43 @@ pub struct HostDisk {
 }
 
 impl HostDisk {
-    /// The file of this path, which is made if there is none; no call has failed yet.
-    pub fn of(rt: HostRuntime, path: String) -> HostDisk
+    /// The file of this path, for this use; no call has failed yet.
+    pub fn of(rt: HostRuntime, path: String, access: Access) -> HostDisk
         ensures count { count_of (faults_of result) ≡ 0 }
         ensures cause { cause_of (faults_of result) ≡ None }
-        ensures file { (path_of result ≡ string_bytes path)
-            × (access_of result ≡ access.WriteOrMake) }
+        ensures file { (path_of result ≡ string_bytes path) × (access_of result ≡ access) }
     {
-        HostDisk::over(JournalFile::of(rt, path, Access::WriteOrMake), None)
+        HostDisk::over(JournalFile::of(rt, path, access), None)
     }
 
     /// The same of a server, which ends by the flag where its journal is lost.
-    pub fn to_serve(rt: HostRuntime, path: String, closing: Closing) -> HostDisk
+    pub fn to_serve(rt: HostRuntime, path: String, access: Access, closing: Closing) -> HostDisk
         ensures count { count_of (faults_of result) ≡ 0 }
         ensures cause { cause_of (faults_of result) ≡ None }
-        ensures file { (path_of result ≡ string_bytes path)
-            × (access_of result ≡ access.WriteOrMake) }
+        ensures file { (path_of result ≡ string_bytes path) × (access_of result ≡ access) }
     {
-        HostDisk::over(
-            JournalFile::of(rt, path, Access::WriteOrMake),
-            Some(closing),
-        )
+        HostDisk::over(JournalFile::of(rt, path, access), Some(closing))
+    }
+
+    /// The same disk, of which these lines tell.
+    pub fn telling(self, lines: Lines) -> HostDisk
+        ensures faults { faults_of result ≡ faults_of self }
+        ensures file { (path_of result ≡ path_of self)
+            × (access_of result ≡ access_of self) }
+    {
+        let mut disk = self;
+        disk.file.tell_by(lines);
+        disk
+    }
+
+    /// The same disk, which gets room of this reserve where it has none for the file.
+    pub fn keeping(self, reserve: Reserve) -> HostDisk
+        ensures faults { faults_of result ≡ faults_of self }
+        ensures file { (path_of result ≡ path_of self) × (access_of result ≡ access_of self) }
+    {
+        let mut disk = self;
+        disk.file.keep(reserve);
+        disk
     }
 
     /// The file of this path, to be read alone. Each call fails if there is none, or a folder in its
@@ -63,16 +80,6 @@ impl HostDisk {
             × (access_of result ≡ access.Read) }
     {
         HostDisk::over(JournalFile::of(rt, path, Access::Read), None)
-    }
-
-    /// The file of this path, to be read and written. Each call fails if there is none; no call has failed yet.
-    pub fn to_change(rt: HostRuntime, path: String) -> HostDisk
-        ensures count { count_of (faults_of result) ≡ 0 }
-        ensures cause { cause_of (faults_of result) ≡ None }
-        ensures file { (path_of result ≡ string_bytes path)
-            × (access_of result ≡ access.Write) }
-    {
-        HostDisk::over(JournalFile::of(rt, path, Access::Write), None)
     }
 
     fn over(file: JournalFile, closing: Option<Closing>) -> HostDisk

@@ -6,16 +6,17 @@ ghost use Rattle.host_edge.specs.FaultCount.{count_of, cause_of, IsCounted};
 ghost use Rattle.host_edge.specs.HostDoor.{comes_from, listens, left_of, out_of, ended_of, faults_of, IsLinkCounted};
 
 use crate::again::{accept_again, connect_within};
+use crate::candidates::Candidates;
 use crate::closing::{Closing, is_closing};
 use crate::fault_count::FaultCount;
 use crate::idle_streams::IdleStreams;
 use crate::trouble::tell_end;
-use crate::{HostLink, Patience};
+use crate::{HostLink, Lines, Patience};
 use exam_edge::{Door, Failed, Memory};
 use std::alloc::Global;
 use std::io;
 use std::io::ErrorKind;
-use std::net::{TcpListener, TcpStream};
+use std::net::TcpListener;
 use std::time::Duration;
 
 /// Where the connections of a door come from.
@@ -52,17 +53,32 @@ fn origin_of(listener: Option<TcpListener>) -> Origin
     }
 }
 
+/// What a door gives of the connections that come.
+#[derive(Drop)]
+enum Choice {
+    /// Each connection, as it comes.
+    Each,
+    /// The messages of all connections, each as soon as it is there as a whole.
+    Messages(IdleStreams),
+    /// Of the connections that are there, the one that sends a byte first.
+    First,
+}
+
+// How many bytes all doors of a server hold at most for connections that no worker serves.
+const MOST_HELD: usize = 64 << 20;
+
 /// The connections of a listener, which other doors may share, one after another, or those that it makes to an address. It
-/// gives no more after a stated number of links, if there is one. If there is none, the doors of a server keep a connection
-/// aside that has nothing to read, and give it when it has. A door with neither a listener nor an address fails at each accept.
+/// gives no more after a stated number of links, if there is one. If there is none, the doors of a server keep the
+/// connections, and give a part of one that is a message and its response, when that message is there as a whole. A door with neither a listener nor an address fails at each accept.
 /// Where the journal is lost, it gives no more links from the flag on that the journal's file sets. It does not report its
 /// links.
 #[derive(Drop)]
 pub struct HostDoor {
     rt: HostRuntime,
+    lines: Lines,
     origin: Origin,
     patience: Patience,
-    idle: Option<IdleStreams>,
+    choice: Choice,
     left: Option<u64>,
     out: bool,
     closing: Option<Closing>,
@@ -75,6 +91,34 @@ fn share_of(closing: Option<&Closing>) -> Result<Option<Closing>, Memory> {
     match closing {
         Some(closing) => Ok(Some(closing.share()?)),
         None => Ok(None),
+    }
+}
+
+// The next link of a listener; none where the server is to end.
+fn link_of(
+    rt: HostRuntime,
+    lines: &Lines,
+    listener: &TcpListener,
+    choice: &mut Choice,
+    patience: Patience,
+    closing: Option<&Closing>,
+) -> io::Result<Option<HostLink>> {
+    match choice {
+        Choice::Messages(idle) => match idle.next(&rt, lines, listener, closing)? {
+            Some(gathered) => Ok(Some(HostLink::of_message(rt, gathered, patience))),
+            None => Ok(None),
+        },
+        _ if is_closing(closing) => Ok(None),
+        Choice::Each => {
+            let stream = accept_again(&rt, lines, listener)?;
+            Ok(Some(HostLink::of(rt, stream, patience)))
+        }
+        Choice::First => {
+            let stream = accept_again(&rt, lines, listener)?;
+            let own = listener.try_clone()?;
+            let first = Candidates::of(rt, own, patience.first, stream)?;
+            Ok(Some(HostLink::of_first(rt, first, patience)))
+        }
     }
 }
 
@@ -93,11 +137,18 @@ impl HostDoor {
         ensures count { count_of (faults_of result) ≡ 0 }
         ensures cause { cause_of (faults_of result) ≡ None }
     {
-        HostDoor::from(rt, origin_of(listener), Patience::of_messages(limit), links)
+        HostDoor::from(
+            rt,
+            origin_of(listener),
+            Choice::Each,
+            Patience::of_messages(limit),
+            links,
+        )
     }
 
-    /// The door of a follower: each connection of this listener is a link, and each read and write of it waits for at most a
-    /// minute. No call has failed yet.
+    /// The door of a follower: a link is the connection of this listener that sends a byte first, after what was written to
+    /// all. Others that are there meanwhile end, and one that is silent for a minute does. Each read after that byte and each
+    /// write waits for at most a minute. No call has failed yet.
     pub fn to_follow(rt: HostRuntime, listener: Option<TcpListener>) -> HostDoor
         ensures listens { listens result ≡ is_some listener }
         ensures left { left_of result ≡ None }
@@ -105,7 +156,13 @@ impl HostDoor {
         ensures count { count_of (faults_of result) ≡ 0 }
         ensures cause { cause_of (faults_of result) ≡ None }
     {
-        HostDoor::from(rt, origin_of(listener), Patience::of_records(), None)
+        HostDoor::from(
+            rt,
+            origin_of(listener),
+            Choice::First,
+            Patience::of_records(),
+            None,
+        )
     }
 
     /// The door of a shipper: one link, which accept makes by a connection to this address. A connection that is refused, or
@@ -121,13 +178,20 @@ impl HostDoor {
         HostDoor::from(
             rt,
             Origin::Address(address),
+            Choice::Each,
             Patience::of_records(),
             Some(1),
         )
     }
 
-    // A door of this origin that gives so many links, or any number of them, and keeps none aside.
-    fn from(rt: HostRuntime, origin: Origin, patience: Patience, links: Option<u64>) -> HostDoor
+    // A door of this origin that gives so many links, or any number of them.
+    fn from(
+        rt: HostRuntime,
+        origin: Origin,
+        choice: Choice,
+        patience: Patience,
+        links: Option<u64>,
+    ) -> HostDoor
         ensures listens { listens result ≡ comes_from origin }
         ensures left { left_of result ≡ links }
         ensures out { out_of result ≡ false }
@@ -136,9 +200,10 @@ impl HostDoor {
     {
         HostDoor {
             rt,
+            lines: Lines::direct(rt),
             origin,
             patience,
-            idle: None,
+            choice,
             left: links,
             out: false,
             closing: None,
@@ -147,13 +212,15 @@ impl HostDoor {
         }
     }
 
-    // A door of this listener that gives any number of links, and keeps connections aside. It has no listener where the
-    // system cannot watch it.
+    // A door of this listener that gives any number of links, and keeps connections, for which it holds so many bytes at most.
+    // It has no listener where the system cannot watch it.
     fn keeping(
         rt: HostRuntime,
         alloc: Global,
         listener: Option<TcpListener>,
         limit: Duration,
+        most: usize,
+        operator: Option<i32>,
     ) -> HostDoor
         ensures listens { IsNone listener → listens result ≡ false }
         ensures left { left_of result ≡ None }
@@ -161,11 +228,23 @@ impl HostDoor {
     {
         let mut door = HostDoor::of(rt, None, limit, None);
         if let Some(listener) = listener {
-            if let Ok(idle) = IdleStreams::of(&rt, alloc, &listener, limit) {
+            if let Ok(idle) = IdleStreams::of(&rt, alloc, &listener, limit, most, operator) {
                 door.origin = Origin::Listener(listener);
-                door.idle = Some(idle);
+                door.choice = Choice::Messages(idle);
             }
         }
+        door
+    }
+
+    /// The same door, of which these lines tell.
+    pub fn telling(self, lines: Lines) -> HostDoor
+        ensures listens { listens result ≡ listens self }
+        ensures left { left_of result ≡ left_of self }
+        ensures out { out_of result ≡ out_of self }
+        ensures faults { faults_of result ≡ faults_of self }
+    {
+        let mut door = self;
+        door.lines = lines;
         door
     }
 
@@ -183,6 +262,8 @@ impl HostDoor {
         listener: Option<&TcpListener>,
         limit: Duration,
         links: Option<u64>,
+        most: usize,
+        operator: Option<i32>,
     ) -> HostDoor
         ensures listens { IsNone listener.entry → listens result ≡ false }
         ensures left { left_of result ≡ links }
@@ -191,8 +272,19 @@ impl HostDoor {
         let own = listener.and_then(|listener| listener.try_clone().ok());
         match links {
             Some(_) => HostDoor::of(rt, own, limit, links),
-            None => HostDoor::keeping(rt, alloc, own, limit),
+            None => HostDoor::keeping(rt, alloc, own, limit, most, operator),
         }
+    }
+
+    // The same door, which ends by the flag, if there is one, and of which these lines tell.
+    fn fitted(self, closing: Option<&Closing>, lines: &Lines) -> Result<HostDoor, Memory>
+        ensures listens { IfOk result (λ door. listens door ≡ listens self) }
+        ensures left { IfOk result (λ door. left_of door ≡ left_of self) }
+        ensures out { IfOk result (λ door. out_of door ≡ out_of self) }
+    {
+        let mut door = self.telling(lines.share()?);
+        door.closing = share_of(closing)?;
+        Ok(door)
     }
 
     /// So many doors, which share the listener if there is one, and of which each gives so many links. A link waits so long
@@ -206,6 +298,7 @@ impl HostDoor {
         limit: Duration,
         links: Option<u64>,
         closing: Option<&Closing>,
+        lines: &Lines,
     ) -> Result<Vec<HostDoor>, Memory>
         ensures count { IfOk result (λ all. vec_len all ≡ doors) }
         ensures home { IfOk result (λ all. All (λ d. out_of d ≡ false) all.items) }
@@ -217,17 +310,19 @@ impl HostDoor {
         if let Some(listener) = listener {
             let _ = listener.set_nonblocking(links.is_none());
         }
+        let most = MOST_HELD / usize::from(doors.max(1));
+        let operator = closing.and_then(|closing| closing.operator());
         let mut all = Vec::new(alloc);
         for _made in 0..doors {
-            let mut door = HostDoor::shared(rt, alloc, listener, limit, links);
-            door.closing = share_of(closing)?;
-            all.push(door)?;
+            let door = HostDoor::shared(rt, alloc, listener, limit, links, most, operator);
+            all.push(door.fitted(closing, lines)?)?;
         }
         Ok(all)
     }
 
-    // The next connection of the listener, one that was kept aside, or one that is made; none where the journal is lost.
-    fn next_stream(&mut self) -> io::Result<Option<TcpStream>>
+    // The next link: a connection of the listener or a message of one, or a connection that is made; none where the server is to
+    // end.
+    fn next_link(&mut self) -> io::Result<Option<HostLink>>
         ensures listens { listens self.new ≡ listens self.old }
         ensures left { left_of self.new ≡ left_of self.old }
         ensures out { out_of self.new ≡ out_of self.old }
@@ -235,23 +330,27 @@ impl HostDoor {
         ensures faults { faults_of self.new ≡ faults_of self.old }
         ensures deaf { listens self.old ≡ false → IsErr result }
     {
+        let (rt, patience) = (self.rt, self.patience);
         let listener = match &self.origin {
             Origin::Listener(listener) => listener,
             Origin::Address(address) => {
-                return connect_within(&self.rt, address.as_str(), self.patience.first).map(Some);
+                let stream = connect_within(&rt, address.as_str(), patience.first)?;
+                return Ok(Some(HostLink::of(rt, stream, patience)));
             }
             Origin::Nowhere => {
                 return Err(io::Error::new(ErrorKind::NotConnected, "no listener"));
             }
         };
-        let closing = self.closing.as_ref();
-        let given = match &mut self.idle {
-            Some(idle) => idle.next(&self.rt, listener, closing),
-            None if is_closing(closing) => Ok(None),
-            None => accept_again(&self.rt, listener).map(Some),
-        };
+        let given = link_of(
+            rt,
+            &self.lines,
+            listener,
+            &mut self.choice,
+            patience,
+            self.closing.as_ref(),
+        );
         if let Err(cause) = &given {
-            tell_end(&self.rt, cause);
+            tell_end(&self.lines, cause);
         }
         given
     }
@@ -304,13 +403,13 @@ impl Door for HostDoor {
         if self.left == Some(0) && self.origin.is_somewhere() {
             return Ok(None);
         }
-        let given = self.next_stream();
-        let Some(stream) = self.faults.answer(given)? else {
+        let given = self.next_link();
+        let Some(link) = self.faults.answer(given)? else {
             self.ended = true;
             return Ok(None);
         };
         self.count_link();
-        Ok(Some(HostLink::of(self.rt, stream, self.patience, self.idle.is_some())))
+        Ok(Some(link))
     }
 
     fn back(&mut self, link: HostLink)
@@ -320,8 +419,8 @@ impl Door for HostDoor {
         ensures left { left_of self.new ≡ left_of self.old }
         ensures faults { faults_of self.new ≡ faults_of self.old }
     {
-        if let (Some(stream), Some(idle)) = (link.close(), &mut self.idle) {
-            idle.keep(&self.rt, stream);
+        if let (Some(connection), Choice::Messages(idle)) = (link.close(), &mut self.choice) {
+            idle.keep(&self.rt, connection);
         }
         self.out = false;
     }

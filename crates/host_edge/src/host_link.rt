@@ -1,11 +1,14 @@
 //! A connection of the host.
 
-ghost use Rattle.std.specs.Prelude.{◌≡◌, ◌≤◌, ◌<◌, [], Ok, None, true, false, is_ok, is_some, length, IsErr, IfOk, OnErr};
+ghost use Rattle.std.specs.Prelude.{◌≡◌, ◌≤◌, ◌<◌, [], Ok, None, true, false, is_ok, length, IsErr, IsNone, IfOk, OnErr};
 ghost use Rattle.exam_edge.specs.Faults.{Rose};
+ghost use Rattle.host_edge.specs.Connection.{serves};
 ghost use Rattle.host_edge.specs.FaultCount.{count_of, cause_of, IsCounted};
-ghost use Rattle.host_edge.specs.HostLink.{faults_of, is_over, is_at_rest};
+ghost use Rattle.host_edge.specs.HostLink.{faults_of, is_over, is_at_rest, is_gathered};
 
 use crate::again::{read_again, write_again};
+use crate::candidates::Candidates;
+use crate::connection::{Connection, Gathered};
 use crate::fault_count::FaultCount;
 use exam_edge::{Failed, Link};
 use std::io;
@@ -13,18 +16,27 @@ use std::io::{ErrorKind, Read};
 use std::net::{Shutdown, TcpStream};
 use std::time::{Duration, Instant};
 
-/// A TCP connection, or the part of one between two of its rests. It does not report its bytes. A read into an empty buffer
-/// lets it know that all bytes that it gave were used: if its door keeps idle connections, it ends there, and the door gives
-/// the connection again when it has more to read.
+/// A TCP connection, or, if its door keeps connections, the part of one that is a message and its response. It does not
+/// report its bytes. A read into an empty buffer lets it know that all bytes that it gave were used: the part of a connection
+/// ends there, and the door gives the next when it has another message as a whole.
 #[derive(Drop)]
 pub struct HostLink {
     rt: HostRuntime,
-    stream: TcpStream,
+    way: Way,
     patience: Patience,
-    /// Whether its door keeps idle connections.
-    is_kept: bool,
     stage: Stage,
     faults: FaultCount,
+}
+
+/// How a link gets and gives its bytes.
+#[derive(Drop)]
+enum Way {
+    /// By a socket, whose reads and writes wait.
+    Socket(TcpStream),
+    /// By what its door has gathered. Nothing waits.
+    Gathered(Gathered),
+    /// By that of several sockets which sends a byte first.
+    First(Candidates),
 }
 
 /// How long a link waits.
@@ -73,16 +85,16 @@ enum Stage {
 }
 
 // How many seconds a link waits for the next bytes of a message that has begun, and for room for its response.
-const BETWEEN: u64 = 5;
+pub(crate) const BETWEEN: u64 = 5;
 
 // How many seconds a message may take from its first byte.
-const WHOLE: u64 = 15;
+pub(crate) const WHOLE: u64 = 15;
 
 // How many seconds a side of records waits for the other.
 const MINUTE: u64 = 60;
 
 // How many seconds, and in how many reads, the end of a connection waits for what its client still sends.
-const LAST_WAIT: u64 = 1;
+pub(crate) const LAST_WAIT: u64 = 1;
 
 const LAST_READS: u32 = 16;
 
@@ -105,47 +117,110 @@ fn read_rest(rt: &HostRuntime, stream: &mut TcpStream) -> io::Result<()> {
     Ok(())
 }
 
+// Ends a connection. Bytes that were not read make the system drop a reply on its way, so they are read first, for a stated
+// time.
+fn end_stream(rt: &HostRuntime, stream: TcpStream) {
+    let mut stream = stream;
+    if stream.shutdown(Shutdown::Write).is_ok() {
+        let _ = read_rest(rt, &mut stream);
+    }
+}
+
+// Reads bytes of a socket, at this stage: the stage after it, and how many there were.
+fn receive_at(
+    rt: &HostRuntime,
+    patience: Patience,
+    stage: Stage,
+    stream: &mut TcpStream,
+    buffer: &mut [u8],
+) -> io::Result<(Stage, usize)>
+    ensures { IfOk result (λ r. r.1 ≤ length buffer.old) }
+{
+    match stage {
+        Stage::Begun(start) => {
+            if patience.whole <= start.elapsed(rt)? {
+                return Err(io::Error::from(ErrorKind::TimedOut));
+            }
+            Ok((stage, read_again(stream, buffer)?))
+        }
+        _ => {
+            let count = read_again(stream, buffer)?;
+            stream.set_read_timeout(Some(patience.between))?;
+            Ok((Stage::Begun(Instant::now(rt)?), count))
+        }
+    }
+}
+
 impl HostLink {
-    /// The link over a connection; no call has failed yet. It waits so long, but if its door keeps idle connections, no longer
-    /// for the first byte of a message than for the next: it has something to read already. A reply is sent at once, and not
-    /// held back for more.
-    pub fn of(rt: HostRuntime, stream: TcpStream, patience: Patience, is_kept: bool) -> HostLink
+    /// The link over a connection; no call has failed yet. It waits so long. A reply is sent at once, and not held back for
+    /// more.
+    pub fn of(rt: HostRuntime, stream: TcpStream, patience: Patience) -> HostLink
         ensures count { count_of (faults_of result) ≡ 0 }
         ensures cause { cause_of (faults_of result) ≡ None }
         ensures over { is_over result ≡ false }
         ensures rest { is_at_rest result ≡ false }
     {
-        let first = if is_kept {
-            patience.between
-        } else {
-            patience.first
-        };
         let _ = stream.set_nodelay(true);
-        let _ = stream.set_read_timeout(Some(first));
+        let _ = stream.set_read_timeout(Some(patience.first));
         let _ = stream.set_write_timeout(Some(patience.between));
+        HostLink::by(rt, Way::Socket(stream), patience)
+    }
+
+    /// The link over a message that a door has gathered.
+    pub(crate) fn of_message(rt: HostRuntime, gathered: Gathered, patience: Patience) -> HostLink
+        ensures count { count_of (faults_of result) ≡ 0 }
+        ensures cause { cause_of (faults_of result) ≡ None }
+        ensures over { is_over result ≡ false }
+        ensures rest { is_at_rest result ≡ false }
+    {
+        HostLink::by(rt, Way::Gathered(gathered), patience)
+    }
+
+    /// The link over the connection that sends a byte first.
+    pub(crate) fn of_first(rt: HostRuntime, first: Candidates, patience: Patience) -> HostLink
+        ensures count { count_of (faults_of result) ≡ 0 }
+        ensures cause { cause_of (faults_of result) ≡ None }
+        ensures over { is_over result ≡ false }
+        ensures rest { is_at_rest result ≡ false }
+    {
+        HostLink::by(rt, Way::First(first), patience)
+    }
+
+    fn by(rt: HostRuntime, way: Way, patience: Patience) -> HostLink
+        ensures count { count_of (faults_of result) ≡ 0 }
+        ensures cause { cause_of (faults_of result) ≡ None }
+        ensures over { is_over result ≡ false }
+        ensures rest { is_at_rest result ≡ false }
+    {
         HostLink {
             rt,
-            stream,
+            way,
             patience,
-            is_kept,
             stage: Stage::Fresh,
             faults: FaultCount::none(),
         }
     }
 
-    /// Ends the connection, unless it is at rest: then it is what is returned. Bytes that were not read make the system drop
-    /// a reply on its way, so they are read first, for a stated time.
-    pub fn close(self) -> Option<TcpStream>
-        ensures { is_some result ≡ is_at_rest self }
+    /// Ends the connection, or, if its door keeps it, gives it back: to be served further exactly if the link is at rest, else
+    /// to end once its client has taken what was written.
+    pub fn close(self) -> Option<Connection>
+        ensures kept { is_gathered self ≡ true → serves result ≡ is_at_rest self }
+        ensures ended { is_gathered self ≡ false → IsNone result }
     {
-        let mut stream = self.stream;
-        if self.stage == Stage::AtRest {
-            return Some(stream);
+        let (rt, stage) = (self.rt, self.stage);
+        match self.way {
+            Way::Socket(stream) => {
+                end_stream(&rt, stream);
+                None
+            }
+            Way::Gathered(gathered) => {
+                if stage == Stage::Over {
+                    return None;
+                }
+                Some(gathered.into_connection(stage == Stage::AtRest))
+            }
+            Way::First(_candidates) => None,
         }
-        if stream.shutdown(Shutdown::Write).is_ok() {
-            let _ = read_rest(&self.rt, &mut stream);
-        }
-        None
     }
 
     // All bytes that it gave were used: it ends here, or the next message begins.
@@ -153,11 +228,13 @@ impl HostLink {
         ensures { faults_of self.new ≡ faults_of self.old }
     {
         if let Stage::Begun(_) = self.stage {
-            self.stage = if self.is_kept {
-                Stage::AtRest
-            } else {
-                let _ = self.stream.set_read_timeout(Some(self.patience.first));
-                Stage::Fresh
+            self.stage = match &self.way {
+                Way::Gathered(_) => Stage::AtRest,
+                Way::Socket(stream) => {
+                    let _ = stream.set_read_timeout(Some(self.patience.first));
+                    Stage::Fresh
+                }
+                Way::First(_) => Stage::Fresh,
             };
         }
     }
@@ -176,19 +253,37 @@ impl HostLink {
         ensures count { IfOk result (λ k. k ≤ length buffer.old) }
         ensures faults { faults_of self.new ≡ faults_of self.old }
     {
-        match self.stage {
-            Stage::Begun(start) => {
-                if self.patience.whole <= start.elapsed(&self.rt)? {
-                    return Err(io::Error::from(ErrorKind::TimedOut));
-                }
-                read_again(&mut self.stream, buffer)
-            }
-            _ => {
-                let count = read_again(&mut self.stream, buffer)?;
-                self.stream.set_read_timeout(Some(self.patience.between))?;
-                self.stage = Stage::Begun(Instant::now(&self.rt)?);
+        if let Way::First(candidates) = &mut self.way {
+            self.way = Way::Socket(candidates.first_to_send()?);
+        }
+        match &mut self.way {
+            Way::Socket(stream) => {
+                let (stage, count) = receive_at(
+                    &self.rt,
+                    self.patience,
+                    self.stage,
+                    stream,
+                    buffer,
+                )?;
+                self.stage = stage;
                 Ok(count)
             }
+            Way::Gathered(gathered) => {
+                self.stage = Stage::Begun(Instant::now(&self.rt)?);
+                Ok(gathered.give(buffer))
+            }
+            Way::First(_) => Ok(0),
+        }
+    }
+
+    // Writes bytes of a response.
+    fn send(&mut self, piece: &[u8]) -> io::Result<usize>
+        ensures faults { faults_of self.new ≡ faults_of self.old }
+    {
+        match &mut self.way {
+            Way::Socket(stream) => write_again(stream, piece),
+            Way::Gathered(gathered) => gathered.write(piece),
+            Way::First(candidates) => candidates.write(piece),
         }
     }
 
@@ -268,7 +363,7 @@ impl Link for HostLink {
         if piece.is_empty() {
             return Ok(0);
         }
-        let given = write_again(&mut self.stream, piece);
+        let given = self.send(piece);
         self.begin_next();
         self.answer_count(given, 1, piece.len())
     }

@@ -5,7 +5,7 @@ ghost use Rattle.std.specs.Prelude.{◌≡◌, ◌≤◌, length, IfOk};
 use crate::again::read_at_again;
 use crate::cut_tail::{Tail, keep_tail, tail_of};
 use crate::file_watch::{FileWatch, Loss};
-use crate::tell::tell;
+use crate::{Lines, Reserve};
 use std::fmt::Display;
 use std::fs::{File, OpenOptions, TryLockError};
 use std::io::ErrorKind;
@@ -19,6 +19,8 @@ pub enum Access {
     Read,
     /// It is read and written, if it is there.
     Write,
+    /// It is read and written, if it is there and is long enough for a journal. None is made.
+    WriteIfMade,
     /// It is read and written, and made if there is none.
     WriteOrMake,
 }
@@ -28,11 +30,16 @@ pub enum Access {
 #[derive(Drop)]
 pub struct JournalFile {
     rt: HostRuntime,
+    lines: Lines,
+    reserve: Option<Reserve>,
     path: String,
     access: Access,
     file: Option<File>,
     watch: FileWatch,
 }
+
+// The length in bytes of a journal without entries. A shorter file becomes a journal where one is made.
+const LEAST_LENGTH: u64 = 9;
 
 // The rights of those who are not the owner of a file.
 const RIGHTS_OF_OTHERS: u32 = 0o077;
@@ -88,11 +95,10 @@ fn lock(file: &File) -> io::Result<()> {
 }
 
 // Tells where others than the owner have rights to the file. A file that was there keeps its rights.
-fn tell_rights(rt: &HostRuntime, path: &str, file: &File) -> io::Result<()> {
+fn tell_rights(lines: &Lines, path: &str, file: &File) -> io::Result<()> {
     let mode = file.metadata()?.mode() & 0o777;
     if mode & RIGHTS_OF_OTHERS != 0 {
-        tell(
-            rt,
+        lines.tell_of(
             path,
             format_args!("its mode is 0{mode:o}: other users have rights to it"),
         );
@@ -101,17 +107,47 @@ fn tell_rights(rt: &HostRuntime, path: &str, file: &File) -> io::Result<()> {
 }
 
 // Opens and locks the file of this path to be read and written.
-fn file_to_write(rt: &HostRuntime, path: &str) -> io::Result<File> {
+fn file_to_write(rt: &HostRuntime, lines: &Lines, path: &str) -> io::Result<File> {
     let file = OpenOptions::new().read(true).write(true).open(rt, path)?;
     lock(&file)?;
-    tell_rights(rt, path, &file)?;
+    tell_rights(lines, path, &file)?;
     sync_folders(rt, path)?;
     Ok(file)
 }
 
-// The same, and makes the file if there is none, for its owner alone. Its folder is synced, so that a file that was made is
-// found after a crash.
-fn file_to_make(rt: &HostRuntime, path: &str) -> io::Result<File> {
+// The same, where none is to be made. A file that is shorter than a journal without entries is refused: it would become one.
+fn file_if_made(rt: &HostRuntime, lines: &Lines, path: &str) -> io::Result<File> {
+    match file_to_write(rt, lines, path) {
+        Ok(file) if file.metadata()?.len() < LEAST_LENGTH => Err(io::Error::new(
+            ErrorKind::InvalidData,
+            "it is too short for a journal, and SHADOWD_MAKE=no makes none",
+        )),
+        Err(cause) if cause.kind() == ErrorKind::NotFound => Err(io::Error::new(
+            ErrorKind::NotFound,
+            "there is none, and SHADOWD_MAKE=no makes none",
+        )),
+        given => given,
+    }
+}
+
+// Tells that a journal is made in a file, if it is too short for one.
+fn tell_made(lines: &Lines, path: &str, file: &File, was_there: bool) -> io::Result<()> {
+    let length = file.metadata()?.len();
+    if !was_there {
+        lines.tell_of(path, "there was none: it is made");
+    } else if length < LEAST_LENGTH {
+        lines.tell_of(
+            path,
+            format_args!("no journal was in its {length} bytes: it is made"),
+        );
+    }
+    Ok(())
+}
+
+// Opens and locks the file of this path, and makes it if there is none, for its owner alone. Its folder is synced, so that a
+// file that was made is found after a crash.
+fn file_to_make(rt: &HostRuntime, lines: &Lines, path: &str) -> io::Result<File> {
+    let was_there = fs::metadata(rt, path).is_ok();
     let file = OpenOptions::new()
         .read(true)
         .write(true)
@@ -119,14 +155,13 @@ fn file_to_make(rt: &HostRuntime, path: &str) -> io::Result<File> {
         .mode(0o600)
         .open(rt, path)?;
     lock(&file)?;
-    tell_rights(rt, path, &file)?;
-    match sync_folders(rt, path) {
-        Ok(()) => Ok(file),
-        Err(cause) => {
-            let _ = remove_empty(rt, path, &file);
-            Err(cause)
-        }
+    tell_rights(lines, path, &file)?;
+    if let Err(cause) = sync_folders(rt, path) {
+        let _ = remove_empty(rt, path, &file);
+        return Err(cause);
     }
+    tell_made(lines, path, &file, was_there)?;
+    Ok(file)
 }
 
 // Opens and locks the file of this path to be read. The host opens a folder so too: it is refused.
@@ -142,6 +177,7 @@ fn file_to_read(rt: &HostRuntime, path: &str) -> io::Result<File> {
 // The file, which is opened unless it is open.
 fn opened<'f>(
     rt: &HostRuntime,
+    lines: &Lines,
     path: &str,
     access: Access,
     file: &'f mut Option<File>,
@@ -149,8 +185,9 @@ fn opened<'f>(
     let kept = match (file.take(), access) {
         (Some(kept), _) => kept,
         (None, Access::Read) => file_to_read(rt, path)?,
-        (None, Access::Write) => file_to_write(rt, path)?,
-        (None, Access::WriteOrMake) => file_to_make(rt, path)?,
+        (None, Access::Write) => file_to_write(rt, lines, path)?,
+        (None, Access::WriteIfMade) => file_if_made(rt, lines, path)?,
+        (None, Access::WriteOrMake) => file_to_make(rt, lines, path)?,
     };
     Ok(file.insert(kept))
 }
@@ -163,6 +200,8 @@ impl JournalFile {
     {
         JournalFile {
             rt,
+            lines: Lines::direct(rt),
+            reserve: None,
             path,
             access,
             file: None,
@@ -170,9 +209,25 @@ impl JournalFile {
         }
     }
 
+    /// The lines that tell of the file from now on.
+    pub fn tell_by(&mut self, lines: Lines)
+        ensures path { self.new.path ≡ self.old.path }
+        ensures access { self.new.access ≡ self.old.access }
+    {
+        self.lines = lines;
+    }
+
+    /// A reserve that the disk gets where it has no room for the file.
+    pub fn keep(&mut self, reserve: Reserve)
+        ensures path { self.new.path ≡ self.old.path }
+        ensures access { self.new.access ≡ self.old.access }
+    {
+        self.reserve = Some(reserve);
+    }
+
     /// Writes a line on the file to standard error.
     pub fn tell<M: Display + Drop>(&self, message: M) {
-        tell(&self.rt, self.path.as_str(), message);
+        self.lines.tell_of(self.path.as_str(), message);
     }
 
     /// How the file was lost, if it was.
@@ -184,9 +239,12 @@ impl JournalFile {
     pub fn len(&mut self) -> io::Result<u64> {
         self.watch.test()?;
         let path = self.path.as_str();
-        let file = opened(&self.rt, path, self.access, &mut self.file)?;
+        let file = opened(&self.rt, &self.lines, path, self.access, &mut self.file)?;
         let length = file.metadata()?.len();
         self.watch.has(Some(length));
+        if let Some(reserve) = &self.reserve {
+            reserve.begin();
+        }
         Ok(length)
     }
 
@@ -196,16 +254,19 @@ impl JournalFile {
     {
         self.watch.test()?;
         let path = self.path.as_str();
-        let file = opened(&self.rt, path, self.access, &mut self.file)?;
+        let file = opened(&self.rt, &self.lines, path, self.access, &mut self.file)?;
         read_at_again(file, at, buffer)
     }
 
     /// Writes bytes at a place, if the file is not lost.
     pub fn write(&mut self, at: u64, bytes: &[u8]) -> io::Result<()> {
         let path = self.path.as_str();
-        let file = opened(&self.rt, path, self.access, &mut self.file)?;
+        let file = opened(&self.rt, &self.lines, path, self.access, &mut self.file)?;
         self.watch.look(&self.rt, path, file)?;
-        let given = file.write_all_at(bytes, at);
+        let given = match &self.reserve {
+            Some(reserve) => reserve.write(file, at, bytes),
+            None => file.write_all_at(bytes, at),
+        };
         match given {
             Ok(()) => self.watch.wrote(at.saturating_add(bytes.len() as u64)),
             Err(_) => self.watch.has(length_now(file)),
@@ -216,7 +277,7 @@ impl JournalFile {
     /// Cuts the file to a length, if it is not lost.
     pub fn cut(&mut self, length: u64) -> io::Result<()> {
         let path = self.path.as_str();
-        let file = opened(&self.rt, path, self.access, &mut self.file)?;
+        let file = opened(&self.rt, &self.lines, path, self.access, &mut self.file)?;
         self.watch.look(&self.rt, path, file)?;
         let given = file.set_len(length);
         match given {
@@ -230,7 +291,7 @@ impl JournalFile {
     pub fn sync(&mut self) -> io::Result<()> {
         self.watch.test()?;
         let path = self.path.as_str();
-        let file = opened(&self.rt, path, self.access, &mut self.file)?;
+        let file = opened(&self.rt, &self.lines, path, self.access, &mut self.file)?;
         file.sync_all()
     }
 
@@ -241,7 +302,7 @@ impl JournalFile {
     pub fn put_aside(&mut self, gate: u64) -> io::Result<()> {
         self.watch.test()?;
         let path = self.path.as_str();
-        let file = opened(&self.rt, path, self.access, &mut self.file)?;
+        let file = opened(&self.rt, &self.lines, path, self.access, &mut self.file)?;
         let Some(tail) = tail_of(file, gate)? else {
             return Ok(());
         };
@@ -249,17 +310,14 @@ impl JournalFile {
         let found = format_args!(
             "{records} whole records, {bytes} bytes, are behind the closed gate at {gate}"
         );
-        tell(&self.rt, path, found);
+        self.lines.tell_of(path, found);
         if self.access == Access::Read {
             return Ok(());
         }
         let kept = keep_tail(&self.rt, path, file, gate)?;
         let kept = kept.as_str();
-        tell(
-            &self.rt,
-            path,
-            format_args!("they are kept in {kept} and cut"),
-        );
+        self.lines
+            .tell_of(path, format_args!("they are kept in {kept} and cut"));
         Ok(())
     }
 }

@@ -5,7 +5,9 @@
 #![tactic(auto)]
 
 mod again;
+mod candidates;
 mod closing;
+mod connection;
 mod cut_tail;
 mod fault_count;
 mod file_watch;
@@ -17,9 +19,11 @@ mod host_link;
 mod host_sink;
 mod idle_streams;
 mod journal_file;
-mod tell;
+mod lines;
+mod reserve;
 mod threads;
 mod trouble;
+mod whole;
 
 pub use closing::Closing;
 pub use host_disk::HostDisk;
@@ -27,3 +31,6 @@ pub use host_door::HostDoor;
 pub use host_files::HostFiles;
 pub use host_link::{HostLink, Patience};
 pub use host_sink::HostSink;
+pub use journal_file::Access;
+pub use lines::{LineCopier, Lines};
+pub use reserve::{Reserve, ReserveKeeper};

@@ -2,10 +2,12 @@
 
 ghost use Rattle.std.specs.Prelude.{◌≡◌, ◌≤◌, [], false, true, is_some, IfOk, OnErr};
 ghost use Rattle.exam_edge.specs.Faults.{Rose};
+ghost use Rattle.host_edge.specs.HostDoor.{out_of};
 ghost use Rattle.host_stream.specs.HostFollower.{faults_of, is_out};
 
 use exam_edge::{Door, Failed};
-use host_edge::{HostDoor, HostLink};
+use host_edge::{HostDoor, HostLink, Lines};
+use std::alloc::AllocError;
 use std::thread;
 use std::time::Duration;
 
@@ -18,6 +20,7 @@ const PAUSE: u64 = 1;
 #[derive(Drop)]
 pub struct HostFollower {
     rt: HostRuntime,
+    lines: Lines,
     address: String,
     door: HostDoor,
     is_first: bool,
@@ -28,12 +31,13 @@ pub struct HostFollower {
 
 impl HostFollower {
     /// The follower at this address; no call has failed yet.
-    pub fn of(rt: HostRuntime, address: String) -> HostFollower
+    pub fn of(rt: HostRuntime, lines: Lines, address: String) -> HostFollower
         ensures faults { faults_of result ≡ 0 }
         ensures out { is_out result ≡ false }
     {
         HostFollower {
             rt,
+            lines,
             address,
             door: HostDoor::to_follow(rt, None),
             is_first: true,
@@ -50,10 +54,15 @@ impl HostFollower {
     {
         if !self.is_away {
             let address = self.address.as_str();
-            let _ = match self.door.cause() {
-                Some(cause) => eprintln!(self.rt; "shadowd: follower at {address}: {cause}"),
-                None => eprintln!(self.rt; "shadowd: follower at {address}: out of memory"),
-            };
+            match self.door.cause() {
+                Some(cause) => {
+                    self.lines
+                        .tell(format_args!("follower at {address}: {cause}"))
+                }
+                None => self
+                    .lines
+                    .tell(format_args!("follower at {address}: out of memory")),
+            }
         }
         self.is_away = true;
         self.faults = self.faults.saturating_add(1);
@@ -71,15 +80,23 @@ impl HostFollower {
         self.is_first = false;
     }
 
+    // A door that connects once.
+    fn next_door(&self) -> Result<HostDoor, AllocError>
+        ensures { IfOk result (λ door. out_of door ≡ false) }
+    {
+        let (address, lines) = (self.address.clone()?, self.lines.share()?);
+        Ok(HostDoor::to_ship(self.rt, address).telling(lines))
+    }
+
     // A door that connects once takes the place of the last one, if there is room for it.
     fn renew(&mut self) -> bool
         ensures faults { faults_of self.new ≡ faults_of self.old }
         ensures out { result ≡ true → is_out self.new ≡ false }
         ensures kept { result ≡ false → is_out self.new ≡ is_out self.old }
     {
-        match self.address.clone() {
-            Ok(address) => {
-                self.door = HostDoor::to_ship(self.rt, address);
+        match self.next_door() {
+            Ok(door) => {
+                self.door = door;
                 true
             }
             Err(_) => false,
@@ -110,7 +127,8 @@ impl Door for HostFollower {
         match self.door.accept() {
             Ok(link) => {
                 let address = self.address.as_str();
-                let _ = eprintln!(self.rt; "shadowd: follower at {address}: connected");
+                self.lines
+                    .tell(format_args!("follower at {address}: connected"));
                 self.is_away = false;
                 Ok(link)
             }

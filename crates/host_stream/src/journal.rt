@@ -7,6 +7,7 @@ ghost use Rattle.host_stream.specs.HostJournal.{faults_of, none_served};
 use crate::pace::{PAUSE, Pace};
 use crate::server::count_entries;
 use exam_edge::Failed;
+use host_edge::Lines;
 use journal_stream::{GrowingFile, Waited};
 use std::fs::File;
 use std::io::ErrorKind;
@@ -24,6 +25,7 @@ const LINES: u64 = 10;
 #[derive(Drop)]
 pub struct HostJournal {
     rt: HostRuntime,
+    lines: Lines,
     path: String,
     server: String,
     is_quiet: bool,
@@ -70,24 +72,31 @@ fn read_at_again(file: &File, at: u64, buffer: &mut [u8]) -> io::Result<usize>
 
 impl HostJournal {
     /// The file of this path, which the server at this address writes; no call has failed yet.
-    pub fn of(rt: HostRuntime, path: String, server: String) -> HostJournal
+    pub fn of(rt: HostRuntime, lines: Lines, path: String, server: String) -> HostJournal
         ensures { faults_of result ≡ 0 }
     {
-        HostJournal::over(rt, path, server, false)
+        HostJournal::over(rt, lines, path, server, false)
     }
 
     /// The same, and no line is written.
     pub fn quiet(rt: HostRuntime, path: String, server: String) -> HostJournal
         ensures { faults_of result ≡ 0 }
     {
-        HostJournal::over(rt, path, server, true)
+        HostJournal::over(rt, Lines::direct(rt), path, server, true)
     }
 
-    fn over(rt: HostRuntime, path: String, server: String, is_quiet: bool) -> HostJournal
+    fn over(
+        rt: HostRuntime,
+        lines: Lines,
+        path: String,
+        server: String,
+        is_quiet: bool,
+    ) -> HostJournal
         ensures { faults_of result ≡ 0 }
     {
         HostJournal {
             rt,
+            lines,
             path,
             server,
             is_quiet,
@@ -108,8 +117,7 @@ impl HostJournal {
         ensures grows { faults_of self.old ≤ faults_of self.new }
     {
         if !self.is_quiet {
-            let path = self.path.as_str();
-            let _ = eprintln!(self.rt; "shadowd: journal {path}: {cause}");
+            self.lines.tell_of(self.path.as_str(), cause);
         }
         self.faults = self.faults.saturating_add(1);
         Failed
@@ -154,8 +162,7 @@ impl HostJournal {
         ensures { faults_of self.new ≡ faults_of self.old }
     {
         if !self.is_awaited && !self.is_quiet {
-            let path = self.path.as_str();
-            let _ = eprintln!(self.rt; "shadowd: journal {path}: not there yet");
+            self.lines.tell_of(self.path.as_str(), "not there yet");
         }
         self.is_awaited = true;
     }
@@ -179,16 +186,15 @@ impl HostJournal {
         self.written = Some(self.noted);
         self.line = Instant::now(&self.rt).ok();
         let noted = self.noted;
-        let _ = match count_entries(&self.rt, self.server.as_str()) {
+        match count_entries(&self.rt, self.server.as_str()) {
             Some(entries) => {
-                eprintln!(self.rt; "shadowd: follower has {noted} of {entries} records")
+                self.lines
+                    .tell(format_args!("follower has {noted} of {entries} records"))
             }
-            None => {
-                eprintln!(self.rt;
-                    "shadowd: follower has {noted} records; the server does not answer"
-                )
-            }
-        };
+            None => self.lines.tell(format_args!(
+                "follower has {noted} records; the server does not answer"
+            )),
+        }
     }
 
     // Whether the last line was written long ago.
@@ -235,8 +241,9 @@ impl GrowingFile for HostJournal {
     fn refuse(&mut self, at: u64) -> Failed {
         if !self.is_quiet {
             let path = self.path.as_str();
-            let _ = eprintln!(self.rt;
-                "shadowd: journal {path}: no journal of the second version, by its bytes at {at}"
+            self.lines.tell_of(
+                path,
+                format_args!("no journal of the second version, by its bytes at {at}"),
             );
         }
         self.faults = self.faults.saturating_add(1);

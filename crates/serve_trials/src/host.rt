@@ -5,7 +5,7 @@ ghost use Rattle.host_edge.specs.HostDoor.{out_of};
 
 use crate::equal::expect_equal;
 use exam_edge::{Disk, Door, Failed, Files, Link, Sink};
-use host_edge::{HostDisk, HostDoor, HostFiles, HostLink, HostSink};
+use host_edge::{Access, HostDisk, HostDoor, HostFiles, HostLink, HostSink, Lines};
 use std::alloc::Global;
 use std::io::{Error, ErrorKind, Read, Write};
 use std::net::{Ipv4Addr, Net, SocketAddr, TcpListener, TcpStream};
@@ -67,7 +67,7 @@ fn expect_read_of_file<R: Abort>(
 
 fn disk_of(rt: &HostRuntime, path: &str) -> Result<HostDisk, Fail> {
     let path = String::from_str(rt.alloc(), path)?;
-    Ok(HostDisk::of(rt.clone()?, path))
+    Ok(HostDisk::of(rt.clone()?, path, Access::WriteOrMake))
 }
 
 // A disk over the file of this path fails, with a cause of this kind.
@@ -263,21 +263,21 @@ fn a_folder_is_no_file_to_read(rt: HostRuntime) -> Result<(), Fail> {
     expect_no_file(&rt, &rt, place.as_path().as_str())
 }
 
-// What a client is answered to "ping": so many bytes.
+// What a client is answered to "ping": so many bytes. No message of HTTP begins so, which is known at the end of the line.
 fn answer_at(rt: &HostRuntime, address: SocketAddr) -> (usize, [u8; 8]) {
     let mut got = [0u8; 8];
     let Ok(mut stream) = TcpStream::connect(rt, address) else {
         return (0, got);
     };
-    let _ = stream.write(b"ping");
+    let _ = stream.write(b"ping\n");
     let count = stream.read(&mut got).unwrap_or(0);
     (count, got)
 }
 
 fn expect_exchange<R: Abort>(rt: &R, link: &mut HostLink) {
     let mut buffer = [0u8; 16];
-    expect_equal(rt, &link.read(&mut buffer), &Ok(4));
-    expect_equal(rt, &buffer, b"ping\0\0\0\0\0\0\0\0\0\0\0\0");
+    expect_equal(rt, &link.read(&mut buffer), &Ok(5));
+    expect_equal(rt, &buffer, b"ping\n\0\0\0\0\0\0\0\0\0\0\0");
     expect_equal(rt, &link.write(b""), &Ok(0));
     expect_equal(rt, &link.write(b"pong!"), &Ok(5));
 }
@@ -313,16 +313,18 @@ fn a_door_gives_its_links(rt: HostRuntime) -> Result<(), Fail> {
     given
 }
 
-// A client that sends "ping", reads the answer, waits so many milliseconds, and sends "ping" again.
+// A client that sends "ping", reads the answer, waits so many milliseconds, and sends "ping" again, in two parts.
 fn ping_twice(rt: &HostRuntime, address: SocketAddr, pause: u64) -> (usize, [u8; 8]) {
     let mut got = [0u8; 8];
     let Ok(mut stream) = TcpStream::connect(rt, address) else {
         return (0, got);
     };
-    let _ = stream.write(b"ping");
+    let _ = stream.write(b"ping\n");
     let _ = stream.read(&mut got);
     thread::sleep(rt, Duration::from_millis(pause));
-    let _ = stream.write(b"ping");
+    let _ = stream.write(b"pi");
+    thread::sleep(rt, Duration::from_millis(100));
+    let _ = stream.write(b"ng\n");
     (stream.read(&mut got).unwrap_or(0), got)
 }
 
@@ -362,7 +364,7 @@ fn a_silent_client_loses_its_connection(rt: HostRuntime) -> Result<(), Fail> {
     ended
 }
 
-// A link that gave a message, whose bytes were used, has ended, so that its connection is kept aside.
+// A link gives a message as a whole. When its bytes were used, the link has ended, so that its connection is kept.
 fn expect_exchange_and_rest<R: Abort>(rt: &R, door: &mut HostDoor) -> Result<(), Fail>
     requires { out_of door.old ≡ false }
     ensures { out_of door.new ≡ false }
@@ -386,7 +388,16 @@ fn expect_link_twice<R: Abort>(
     listener: TcpListener,
 ) -> Result<(), Fail> {
     let limit = Duration::from_secs(60);
-    let mut doors = HostDoor::several(host, host.alloc(), Some(&listener), 1, limit, None, None)?;
+    let mut doors = HostDoor::several(
+        host,
+        host.alloc(),
+        Some(&listener),
+        1,
+        limit,
+        None,
+        None,
+        &Lines::direct(host),
+    )?;
     let door = doors.as_mut_slice();
     match door.first_mut() {
         Some(door) => {

@@ -4,7 +4,7 @@ ghost use Rattle.std.specs.Prelude.{◌≤◌, length};
 
 use answer_journal::{Journal, Walk};
 use exam_text::push_hex;
-use host_edge::HostDisk;
+use host_edge::{HostDisk, Lines};
 use host_stream::HostJournal;
 use journal_stream::JournalTail;
 use record_links::{Asked, GrowingLog};
@@ -135,35 +135,38 @@ pub fn number_in(rt: &HostRuntime, disk: &mut HostDisk, place: Option<u64>) -> O
 }
 
 // Writes the line of these records.
-fn tell(rt: &HostRuntime, journal: &str, records: &Records) {
+fn tell(rt: &HostRuntime, lines: &Lines, journal: &str, records: &Records) {
     let mut digits = Vec::new(rt.alloc());
     if push_hex(rt.alloc(), &mut digits, records.digest.as_slice()).is_err() {
         return;
     }
     if let Ok(digest) = String::from_utf8(digits) {
         let count = records.count;
-        let _ = eprintln!(rt; "shadowd: journal {journal}: {count} records, SHA-256 {digest}");
+        lines.tell_of(journal, format_args!("{count} records, SHA-256 {digest}"));
     }
 }
 
 /// Writes a line to standard error with the count and the digest of the records in the file of this path, if it is there. It is
 /// read, and not changed.
-pub fn tell_records(rt: &HostRuntime, journal: &str) {
+pub fn tell_records(rt: &HostRuntime, lines: &Lines, journal: &str) {
     if fs::metadata(rt, journal).is_err() {
         return;
     }
     let Ok(path) = String::from_str(rt.alloc(), journal) else {
         return;
     };
-    let mut disk = HostDisk::to_read(*rt, path);
+    let Ok(shared) = lines.share() else {
+        return;
+    };
+    let mut disk = HostDisk::to_read(*rt, path).telling(shared);
     if let Some(records) = read_records(rt, &mut disk) {
-        tell(rt, journal, &records);
+        tell(rt, lines, journal, &records);
     }
 }
 
 /// Writes a line to standard error with the count and the digest of the records that the server at an address has settled in the
 /// file of this path, if there is one. The file is read, without a lock, and not changed.
-pub fn tell_settled(rt: &HostRuntime, journal: &str, server: &str) {
+pub fn tell_settled(rt: &HostRuntime, lines: &Lines, journal: &str, server: &str) {
     if fs::metadata(rt, journal).is_err() {
         return;
     }
@@ -175,7 +178,7 @@ pub fn tell_settled(rt: &HostRuntime, journal: &str, server: &str) {
     };
     let mut log = JournalTail::new(HostJournal::quiet(*rt, path, address));
     if let Some(records) = settled_records(rt, &mut log) {
-        tell(rt, journal, &records);
+        tell(rt, lines, journal, &records);
     }
     let _ = log.into_file();
 }

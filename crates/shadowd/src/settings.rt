@@ -2,9 +2,10 @@
 
 ghost use Rattle.std.specs.Prelude.{◌≡◌, ◌≤◌, ◌⊎◌, ◌^◌, ◌-◌, ◌==◌, [], nat_le, ◌&&◌, IfOk, IsTrue, Some, None, codes, length, string_bytes, if◌then◌else◌};
 ghost use Rattle.std.specs.Option.{option_map};
-ghost use Rattle.shadowd.specs.Environment.{AreSettings, IsNumberIn, IsNumberOr, Writes, token_of, value_or};
+ghost use Rattle.shadowd.specs.Environment.{AreSettings, IsNumberIn, IsNumberOr, Writes, makes_by, token_of, value_or};
 
 use crate::variables::{NoText, Variables};
+use host_edge::Lines;
 use std::alloc::{AllocError, Global};
 
 /// Where the journal is, how `serve` and `follow` listen, and where `ship` finds its follower.
@@ -22,6 +23,12 @@ pub struct Settings {
     pub idle: u64,
     /// How many connections each worker serves before the program ends, if it is to end.
     pub connections: Option<u64>,
+    /// Whether a journal that is not there is made.
+    pub make: bool,
+    /// How many bytes are kept beside the journal for a disk that is full.
+    pub reserve: u64,
+    /// The path of the socket by which a server is asked to end, empty if there is none.
+    pub end: String,
     /// What each message to a server has to bear, if anything: 1 to 1,024 bytes, each from 33 to 126.
     pub token: Option<Vec<u8>>,
 }
@@ -85,6 +92,13 @@ const IDLE: Bounds = Bounds {
     default: 300,
 };
 
+// Bytes: up to a gibibyte, else none.
+const RESERVE: Bounds = Bounds {
+    least: 0,
+    most: 1_073_741_824,
+    default: 0,
+};
+
 // The number of a variable, where it is within these bounds. Any other value counts as not set.
 fn number_in(text: &str, bounds: &Bounds) -> Option<u64>
     ensures { Writes bounds.now.least bounds.now.most text.now result }
@@ -108,17 +122,18 @@ fn number_within(number: u64, least: u64, most: u64) -> Option<u64>
 }
 
 // Writes a line on a value that counts as not set.
-fn tell_unset(rt: &HostRuntime, name: &str, text: &str, bounds: &Bounds) {
+fn tell_unset(lines: &Lines, name: &str, text: &str, bounds: &Bounds) {
     let (least, most) = (bounds.least, bounds.most);
-    let _ = eprintln!(rt;
-        "shadowd: {name}={text} counts as not set: it is no number from {least} to {most}"
-    );
+    lines.tell(format_args!(
+        "{name}={text} counts as not set: it is no number from {least} to {most}"
+    ));
 }
 
 // The number of a variable, else what stands for it. If `tells`, a value that counts as not set has
 // a line on standard error.
 fn number_or<V: Variables>(
     rt: &HostRuntime,
+    lines: &Lines,
     variables: &V,
     name: &str,
     bounds: &Bounds,
@@ -133,7 +148,7 @@ fn number_or<V: Variables>(
     let text = value_or(rt.alloc(), variables, name, "")?;
     let found = number_in(text.as_str(), bounds);
     if tells && found.is_none() && !text.is_empty() {
-        tell_unset(rt, name, text.as_str(), bounds);
+        tell_unset(lines, name, text.as_str(), bounds);
     }
     Ok(found.unwrap_or(bounds.default))
 }
@@ -141,6 +156,7 @@ fn number_or<V: Variables>(
 // The number of connections of a worker, if there is one.
 fn connections_of<V: Variables>(
     rt: &HostRuntime,
+    lines: &Lines,
     variables: &V,
     tells: bool,
 ) -> Result<Option<u64>, AllocError>
@@ -155,9 +171,47 @@ fn connections_of<V: Variables>(
     let text = value_or(rt.alloc(), variables, "SHADOWD_CONNECTIONS", "")?;
     let found = number_in(text.as_str(), &any);
     if tells && found.is_none() && !text.is_empty() {
-        tell_unset(rt, "SHADOWD_CONNECTIONS", text.as_str(), &any);
+        tell_unset(lines, "SHADOWD_CONNECTIONS", text.as_str(), &any);
     }
     Ok(found)
+}
+
+// Writes a line on a value that counts as no, and is none.
+fn tell_no(lines: &Lines, text: &str) {
+    if !text.is_empty() && text != "yes" && text != "no" {
+        lines.tell(format_args!("SHADOWD_MAKE={text} counts as no: it is neither yes nor no"));
+    }
+}
+
+// Whether a value makes a journal that is not there: an empty one, or yes.
+fn makes_by(text: &str) -> bool
+    ensures { result ≡ makes_by text.now }
+{
+    text.is_empty() || text == "yes"
+}
+
+// Whether a journal that is not there is made. A value that is neither yes nor no counts as no: an error of typing is not to do
+// what was to be forbidden. If `tells`, it has a line on standard error.
+fn make_of<V: Variables>(lines: &Lines, variables: &V, tells: bool) -> Result<bool, AllocError>
+    ensures { IsTrue (V.tells variables.now) → IfOk result (λ make. make
+        ≡ makes_by (value_or (V.value variables.now (codes "SHADOWD_MAKE")) [])) }
+{
+    match variables.get("SHADOWD_MAKE") {
+        Ok(Some(text)) => {
+            if tells {
+                tell_no(lines, text.as_str());
+            }
+            Ok(makes_by(text.as_str()))
+        }
+        Ok(None) => Ok(true),
+        Err(NoText::Bytes) => {
+            if tells {
+                lines.tell("SHADOWD_MAKE counts as no: it is no text");
+            }
+            Ok(false)
+        }
+        Err(NoText::Memory) => Err(AllocError),
+    }
 }
 
 // Whether a message can bear a token: a field carries each of its bytes, and it is not too long.
@@ -182,13 +236,16 @@ fn token_of<V: Variables>(variables: &V) -> Result<Option<Vec<u8>>, SettingsFaul
 }
 
 impl Settings {
-    /// The values of SHADOWD_JOURNAL, SHADOWD_LISTEN, SHADOWD_FOLLOWER, SHADOWD_WORKERS, SHADOWD_IDLE
-    /// and SHADOWD_CONNECTIONS, or what stands for them. To serve, a number that counts as not set has a
-    /// line on standard error, and there is the token of SHADOWD_TOKEN.
+    /// The values of SHADOWD_JOURNAL, SHADOWD_LISTEN, SHADOWD_FOLLOWER, SHADOWD_WORKERS, SHADOWD_IDLE,
+    /// SHADOWD_CONNECTIONS, SHADOWD_MAKE, SHADOWD_RESERVE and SHADOWD_END, or what stands for them. To serve, a number that counts as not
+    /// set has a line on standard error, and there is the token of SHADOWD_TOKEN. For a command that may
+    /// make a journal, a SHADOWD_MAKE that is neither yes nor no has its line.
     pub fn of<V: Variables>(
         rt: &HostRuntime,
+        lines: &Lines,
         variables: &V,
         serves: bool,
+        makes: bool,
     ) -> Result<Settings, SettingsFault>
         ensures { IsTrue (V.tells variables.now)
             → IfOk result (λ s. AreSettings (V.value variables.now) serves s) }
@@ -198,9 +255,12 @@ impl Settings {
             journal: value_or(alloc, variables, "SHADOWD_JOURNAL", "shadowd.journal")?,
             listen: value_or(alloc, variables, "SHADOWD_LISTEN", "127.0.0.1:4710")?,
             follower: value_or(alloc, variables, "SHADOWD_FOLLOWER", "127.0.0.1:4711")?,
-            workers: number_or(rt, variables, "SHADOWD_WORKERS", &WORKERS, serves)? as u8,
-            idle: number_or(rt, variables, "SHADOWD_IDLE", &IDLE, serves)?,
-            connections: connections_of(rt, variables, serves)?,
+            workers: number_or(rt, lines, variables, "SHADOWD_WORKERS", &WORKERS, serves)? as u8,
+            idle: number_or(rt, lines, variables, "SHADOWD_IDLE", &IDLE, serves)?,
+            connections: connections_of(rt, lines, variables, serves)?,
+            make: make_of(lines, variables, makes)?,
+            reserve: number_or(rt, lines, variables, "SHADOWD_RESERVE", &RESERVE, serves)?,
+            end: value_or(alloc, variables, "SHADOWD_END", "")?,
             token: if serves { token_of(variables)? } else { None },
         })
     }

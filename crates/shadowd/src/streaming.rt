@@ -1,6 +1,7 @@
 //! The stream of a journal that a server writes meanwhile.
 
 use crate::records::tell_settled;
+use host_edge::Lines;
 use host_stream::{HostFollower, HostJournal};
 use journal_stream::{JournalTail, stream_door};
 use record_doors::DoorEnd;
@@ -48,19 +49,19 @@ fn ended_of(end: DoorEnd) -> Ended {
 }
 
 /// Writes a line to standard error on what the follower did.
-fn explain_peer(rt: &HostRuntime, end: DoorEnd) {
+fn explain_peer(lines: &Lines, end: DoorEnd) {
     let DoorEnd::Ended(Followed::Peer(fault)) = end else {
         return;
     };
-    let _ = match fault {
-        PeerFault::Above(count) => {
-            eprintln!(rt; "shadowd: the follower has {count} records, more than this journal")
-        }
-        PeerFault::Kind(kind) => {
-            eprintln!(rt; "shadowd: the follower sent a message of kind {kind}, and no count")
-        }
-        _ => eprintln!(rt; "shadowd: the follower sent no count"),
-    };
+    match fault {
+        PeerFault::Above(count) => lines.tell(format_args!(
+            "the follower has {count} records, more than this journal"
+        )),
+        PeerFault::Kind(kind) => lines.tell(format_args!(
+            "the follower sent a message of kind {kind}, and no count"
+        )),
+        _ => lines.tell("the follower sent no count"),
+    }
 }
 
 /// Writes a line with the count and the digest of the records so far, and then streams the journal of the server at an address
@@ -68,17 +69,18 @@ fn explain_peer(rt: &HostRuntime, end: DoorEnd) {
 pub fn stream_journal<R: Wait>(
     waiting: &R,
     rt: &HostRuntime,
+    lines: &Lines,
     journal: String,
     server: String,
     follower: String,
 ) -> Result<ExitCode, AllocError> {
-    tell_settled(rt, journal.as_str(), server.as_str());
-    let file = HostJournal::of(rt.clone()?, journal, server);
-    let mut door = HostFollower::of(rt.clone()?, follower);
+    tell_settled(rt, lines, journal.as_str(), server.as_str());
+    let file = HostJournal::of(rt.clone()?, lines.share()?, journal, server);
+    let mut door = HostFollower::of(rt.clone()?, lines.share()?, follower);
     let mut log = JournalTail::new(file);
     let end = stream_door(waiting, rt.alloc(), &mut log, &mut door);
     let _ = log.into_file();
-    explain_peer(rt, end);
+    explain_peer(lines, end);
     let Ended { text, status } = ended_of(end);
     match println!(rt; "{text}") {
         Ok(()) => Ok(ExitCode::from(status)),

@@ -2,6 +2,7 @@
 
 use exam_edge::{Gate, Point};
 use exam_handler::{Health, Observer};
+use host_edge::Lines;
 use std::alloc::{AllocError, Global};
 use std::sync::Arc;
 use std::sync::atomic::{AtomicU64, Ordering};
@@ -25,6 +26,7 @@ struct Seen {
 #[derive(Drop)]
 pub struct Watch {
     rt: HostRuntime,
+    lines: Lines,
     start: Option<Instant>,
     journal: String,
     address: Option<String>,
@@ -68,6 +70,7 @@ impl Watch {
     /// had. It measures from now on.
     pub fn new(
         rt: &HostRuntime,
+        lines: Lines,
         journal: String,
         address: Option<String>,
     ) -> Result<Watch, AllocError> {
@@ -80,6 +83,7 @@ impl Watch {
         };
         Ok(Watch {
             rt: rt.clone()?,
+            lines,
             start: Instant::now(rt).ok(),
             journal,
             address,
@@ -91,6 +95,7 @@ impl Watch {
     pub fn share(&self) -> Result<Watch, AllocError> {
         Ok(Watch {
             rt: self.rt.clone()?,
+            lines: self.lines.share()?,
             start: self.start,
             journal: self.journal.clone()?,
             address: self.address.clone()?,
@@ -101,19 +106,24 @@ impl Watch {
     // Writes that the journal was read, and where the server listens.
     fn tell_begin(&self, health: &Health) {
         let (journal, entries, sessions) = (self.journal.as_str(), health.entries, health.sessions);
-        let _ = match self.start.and_then(|start| start.elapsed(&self.rt).ok()) {
+        match self.start.and_then(|start| start.elapsed(&self.rt).ok()) {
             Some(time) => {
                 let (seconds, millis) = (time.as_secs(), time.subsec_millis());
-                eprintln!(self.rt;
-                    "shadowd: journal {journal}: {entries} entries, {sessions} sessions, read {seconds}.{millis:03} seconds after the start"
+                self.lines.tell_of(
+                    journal,
+                    format_args!(
+                        "{entries} entries, {sessions} sessions, read {seconds}.{millis:03} seconds after the start"
+                    ),
                 )
             }
-            None => eprintln!(self.rt;
-                "shadowd: journal {journal}: {entries} entries, {sessions} sessions, read"
+            None => self.lines.tell_of(
+                journal,
+                format_args!("{entries} entries, {sessions} sessions, read"),
             ),
-        };
+        }
         if let Some(address) = &self.address {
-            let _ = eprintln!(self.rt; "shadowd: listening on {address}, journal {journal}");
+            self.lines
+                .tell(format_args!("listening on {address}, journal {journal}"));
         }
     }
 
@@ -122,9 +132,9 @@ impl Watch {
         let (sessions, left) = (health.sessions, health.sessions_left);
         let level = level_of(u64::from(sessions), u64::from(left));
         if raises(&self.seen.sessions_level, level) {
-            let _ = eprintln!(self.rt;
-                "shadowd: {level} of 100 of the plan's sessions: {sessions} have started, and {left} may still start"
-            );
+            self.lines.tell(format_args!(
+                "{level} of 100 of the plan's sessions: {sessions} have started, and {left} may still start"
+            ));
         }
     }
 
@@ -133,9 +143,9 @@ impl Watch {
         let (length, room) = (health.length, health.room);
         let level = level_of(length, room);
         if raises(&self.seen.length_level, level) {
-            let _ = eprintln!(self.rt;
-                "shadowd: {level} of 100 of the plan's journal: it has {length} bytes, and room for {room} more"
-            );
+            self.lines.tell(format_args!(
+                "{level} of 100 of the plan's journal: it has {length} bytes, and room for {room} more"
+            ));
         }
     }
 
@@ -147,8 +157,9 @@ impl Watch {
         let journal = self.journal.as_str();
         let entries = self.seen.entries.load(Ordering::SeqCst);
         let sessions = self.seen.sessions.load(Ordering::SeqCst);
-        let _ = eprintln!(self.rt;
-            "shadowd: journal {journal}: {entries} entries, {sessions} sessions at the end"
+        self.lines.tell_of(
+            journal,
+            format_args!("{entries} entries, {sessions} sessions at the end"),
         );
     }
 }

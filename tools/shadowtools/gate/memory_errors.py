@@ -82,8 +82,9 @@ PLACES = [
             (call, "*answer = Err(journal_fault(fault));", "*answer = audit_walk(alloc, bank, spec, &mut walk);"))
       for name, call in (("audit", "let _ = audit_into(alloc, bank, spec, &mut *disk, &mut answer);"),
                          ("audit_disk", "let disk = audit_into(alloc, bank, spec, disk, &mut answer);"))],
-    Place("shadowd/src/main.rt", "begin", ("let words = words_of(rt).map_err(|_| SettingsFault::Memory)?;",),
+    Place("shadowd/src/main.rt", "main", ("let Ok(words) = words_of(&rt) else {", "return end_before(&rt, &Lines::direct(rt), SettingsFault::Memory);"),
           "`words_of` fails for memory alone"),
+    Place("shadowd/src/main.rt", "end_of_stack", ("end_before(rt, lines, SettingsFault::Memory)",), "a stack that is too small is a want of memory"),
 ]
 
 Ground = collections.namedtuple("Ground", "kind start end pattern", defaults=((),))

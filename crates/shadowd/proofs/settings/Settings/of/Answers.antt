@@ -22,6 +22,9 @@ returns g c = λ told. record {
   workers = c.in_ok-number_or.ensures.number told;
   idle = c.in_ok-number_or-2.ensures.number told;
   connections = c.in_ok-connections_of.ensures told;
+  make = c.in_ok-make_of.ensures told;
+  reserve = c.in_ok-number_or-3.ensures.number told;
+  end = c.in_ok-value_or-4.ensures told;
   token = elim c.if-serves.branch [
     | then-serves+in_ok-token_of w ↦ then_so c.args.serves _ _ _ w.if-serves.true (ap bytes w.result-is ∙ w.in_ok-token_of.ensures told)
     | else-serves w ↦ else_so c.args.serves _ _ _ w.if-serves.false (ap bytes w.result-is)

@@ -1,0 +1,305 @@
+#!/usr/bin/env python3
+"""Measures what clients and operators do to a server at night. See nights.md.
+
+usage: nights.py PROGRAM [slow burst end silent] [--seconds 20] [--kinds KIND ..] [--folder FOLDER]
+
+slow    64 clients of each kind that dawdle, beside 4 that are quick: how long the quick ones wait
+burst   800 connections at one moment, each with one request
+end     160 requests are in flight when the end is asked for by SHADOWD_END, and at SIGTERM
+silent  64 silent connections are at `follow` before `stream` comes
+"""
+import argparse
+import collections
+import contextlib
+import http.client
+import json
+import os
+import select
+import signal
+import socket
+import subprocess
+import tempfile
+import threading
+import time
+
+from many import BANK, PLAN
+
+BODY = b'{"booking":99}'
+HEAD = b"POST /sessions HTTP/1.1\r\nHost: x\r\nContent-Length: %d\r\n\r\n" % len(BODY)
+HEALTH = b"GET /health HTTP/1.1\r\nHost: x\r\nConnection: close\r\n\r\n"
+CLIENTS, WORKERS, QUICK, BURST, FLIGHT, SILENT = 64, 4, 4, 800, 160, 64
+
+
+def spread(values):
+    """Median, 99th percentile and greatest, in milliseconds."""
+    values = sorted(values)
+    return [1000 * values[min(len(values) - 1, int(part * len(values)))] for part in (0.5, 0.99, 1.0)]
+
+
+def line_of(values):
+    return "median %.1f ms, 99th %.1f ms, greatest %.1f ms" % tuple(spread(values))
+
+
+def free_port():
+    with socket.create_server(("127.0.0.1", 0)) as holder:
+        return holder.getsockname()[1]
+
+
+class Night:
+    """A folder with a bank and a plan, and the program."""
+
+    def __init__(self, program, folder=None):
+        self.program, self.folder = os.path.abspath(program), tempfile.mkdtemp(prefix="nights.", dir=folder)
+        self.files, self.running = [os.path.abspath(BANK), os.path.join(self.folder, "plan.txt")], []
+        with open(self.files[1], "w", encoding="ascii") as file:
+            file.write(PLAN)
+
+    def start(self, command, journal, **settings):
+        """A process that goes on; standard error goes to a file."""
+        environment = {"PATH": os.environ["PATH"], "SHADOWD_JOURNAL": os.path.join(self.folder, journal), **settings}
+        with open(os.path.join(self.folder, "errors"), "a", encoding="utf-8") as errors:
+            process = subprocess.Popen([self.program, command, *self.files], env=environment, stdout=subprocess.DEVNULL, stderr=errors, restore_signals=False)
+        self.running.append(process)
+        return process
+
+    def serve(self, journal="journal", **settings):
+        """A server that answers, and its port."""
+        port = free_port()
+        process = self.start("serve", journal, SHADOWD_LISTEN=f"127.0.0.1:{port}", SHADOWD_WORKERS=str(WORKERS), **settings)
+        while ask(port, "GET", "/health", limit=5)[0] != 200:
+            if process.poll() is not None:
+                raise SystemExit(f"the server ended with {process.returncode}: see {self.folder}/errors")
+            time.sleep(0.05)
+        return process, port
+
+    def end(self):
+        for process in self.running:
+            if process.poll() is None:
+                process.kill()
+            process.wait()
+
+
+def ask(port, method, path, body=None, limit=60.0):
+    """The status and the value of the response to one message on a connection of its own; status 0 where none came."""
+    connection = http.client.HTTPConnection("127.0.0.1", port, timeout=limit)
+    try:
+        connection.request(method, path, None if body is None else json.dumps(body), {"Connection": "close"})
+        response = connection.getresponse()
+        return response.status, json.loads(response.read() or b"null")
+    except (OSError, http.client.HTTPException) as fault:
+        return 0, type(fault).__name__
+    finally:
+        connection.close()
+
+
+def bytewise(client, data, over):
+    for byte in data:
+        client.sendall(bytes([byte]))
+        if over.wait(1):
+            return
+
+
+def flood(client, over):
+    client.setsockopt(socket.SOL_SOCKET, socket.SO_RCVBUF, 1024)
+    client.settimeout(2)
+    for _ in range(4000):
+        client.sendall(b"GET /exposure HTTP/1.1\r\nHost: x\r\n\r\n")
+    over.wait(30)
+
+
+def send_and_wait(data):
+    def way(client, over):
+        client.sendall(data)
+        over.wait(30)
+    return way
+
+
+def body_bytewise(client, over):
+    client.sendall(HEAD)
+    bytewise(client, BODY, over)
+    over.wait(1)
+
+
+KINDS = {
+    "nobody": None,
+    "a byte a second": lambda client, over: bytewise(client, HEAD, over),
+    "stops within a head": send_and_wait(HEAD[:40]),
+    "stops within a body": send_and_wait(HEAD + BODY[:5]),
+    "a body, a byte a second": body_bytewise,
+    "does not close": send_and_wait(HEALTH),
+    "reads nothing": flood,
+}
+
+
+def dawdle(port, way, over):
+    while not over.is_set():
+        try:
+            with socket.create_connection(("127.0.0.1", port), 5) as client:
+                way(client, over)
+        except OSError:
+            over.wait(0.2)
+
+
+def quick(port, number, end, waits):
+    booking = 100_000 * (number + 1)
+    while time.monotonic() < end:
+        booking, start = booking + 1, time.monotonic()
+        status, _ = ask(port, "POST", "/sessions", {"booking": booking})
+        waits.append(time.monotonic() - start)
+        if status != 201:
+            print("  a quick client got", status)
+        time.sleep(0.05)
+
+
+def slow(night, asked):
+    """The waits of the quick clients beside each kind: begins, which the disk syncs."""
+    found = {}
+    for kind in asked.kinds or KINDS:
+        server, port = night.serve(journal=kind.replace(" ", "."))
+        over, waits, way = threading.Event(), [], KINDS[kind]
+        for _ in range(CLIENTS if way else 0):
+            threading.Thread(target=dawdle, args=(port, way, over), daemon=True).start()
+        time.sleep(2)
+        end = time.monotonic() + asked.seconds
+        others = [threading.Thread(target=quick, args=(port, number, end, waits)) for number in range(QUICK)]
+        for thread in others:
+            thread.start()
+        for thread in others:
+            thread.join()
+        over.set()
+        server.kill()
+        server.wait()
+        found[kind] = spread(waits)
+        print(f"slow: {CLIENTS} clients, {kind}; {WORKERS} workers; {len(waits)} begins of {QUICK} others: {line_of(waits)}", flush=True)
+    return found
+
+
+def burst(night, _asked):
+    """When each of many connections is made and has its response."""
+    found = {}
+    for route in ("health", "begin"):
+        server, port = night.serve(journal="burst." + route)
+        clients, poll, begun = {}, select.epoll(), time.monotonic()
+        for number in range(BURST):
+            client = socket.socket()
+            client.setblocking(False)
+            client.connect_ex(("127.0.0.1", port))
+            clients[client.fileno()] = (client, number)
+            poll.register(client.fileno(), select.EPOLLOUT)
+        got, connected, waits = collections.Counter(), [], []
+        while len(waits) < BURST and time.monotonic() - begun < 60:
+            for place, event in poll.poll(1):
+                client, number = clients[place]
+                if event & select.EPOLLOUT:
+                    connected.append(time.monotonic() - begun)
+                    body = b'{"booking":%d}' % number
+                    client.sendall(HEALTH if route == "health" else
+                                   b"POST /sessions HTTP/1.1\r\nHost: x\r\nConnection: close\r\nContent-Length: %d\r\n\r\n%s" % (len(body), body))
+                    poll.modify(place, select.EPOLLIN)
+                else:
+                    got[client.recv(4096)[9:12].decode() or "none"] += 1
+                    waits.append(time.monotonic() - begun)
+                    poll.unregister(place)
+                    client.close()
+        server.kill()
+        server.wait()
+        found[route] = (dict(got), max(connected), max(waits))
+        print(f"burst: {BURST} connections, {route}: {dict(got)}; connected: {line_of(connected)}; responses: {line_of(waits)}", flush=True)
+    return found
+
+
+def asked_end(path):
+    """Asks for the end by a connection, and waits for it."""
+    with socket.socket(socket.AF_UNIX) as operator:
+        operator.connect(path)
+        try:
+            operator.recv(1)
+        except ConnectionResetError:
+            pass
+
+
+def end(night, _asked):
+    """What becomes of requests that are in flight at an end."""
+    found = {}
+    for way in ("asked", "SIGTERM"):
+        path = os.path.join(night.folder, "end")
+        server, port = night.serve(journal="end." + way, SHADOWD_END=path)
+        sessions = [ask(port, "POST", "/sessions", {"booking": booking})[1]["session"] for booking in range(FLIGHT)]
+        got, gate = collections.Counter(), threading.Barrier(FLIGHT + 1)
+
+        def client(session, port=port, got=got, gate=gate):
+            gate.wait()
+            status, value = ask(port, "POST", f"/sessions/{session}/answers", {"step": 0, "response": 1}, limit=20)
+            got[status or value] += 1
+
+        threads = [threading.Thread(target=client, args=(session,)) for session in sessions]
+        for thread in threads:
+            thread.start()
+        gate.wait()
+        time.sleep(0.03)
+        begun = time.monotonic()
+        if way == "SIGTERM":
+            server.send_signal(signal.SIGTERM)
+        elif os.path.exists(path):
+            asked_end(path)
+        else:
+            print("end: this program has no socket of SHADOWD_END; it is killed", flush=True)
+            server.kill()
+        status, took = server.wait(), time.monotonic() - begun
+        for thread in threads:
+            thread.join()
+        found[way] = (dict(got), status, took)
+        print(f"end, {way}: {FLIGHT} requests in flight got {dict(got)}; status {status} after {1000 * took:.0f} ms", flush=True)
+    return found
+
+
+def silent(night, _asked):
+    """How long `stream` needs to reach a follower at which others are silent, and what ends."""
+    server, port = night.serve(journal="leader")
+    for booking in range(20):
+        ask(port, "POST", "/sessions", {"booking": booking})
+    size, place, copy = os.path.getsize(os.path.join(night.folder, "leader")), free_port(), os.path.join(night.folder, "copy")
+    follower = night.start("follow", "copy", SHADOWD_LISTEN=f"127.0.0.1:{place}")
+    time.sleep(1)
+    strangers = [socket.create_connection(("127.0.0.1", place)) for _ in range(SILENT)]
+    time.sleep(0.5)
+    begun = time.monotonic()
+    stream = night.start("stream", "leader", SHADOWD_LISTEN=f"127.0.0.1:{port}", SHADOWD_FOLLOWER=f"127.0.0.1:{place}")
+    ended = None
+    while not (os.path.exists(copy) and os.path.getsize(copy) >= size) and ended is None and time.monotonic() - begun < 100:
+        ended = follower.poll()
+        with contextlib.suppress(OSError), socket.create_connection(("127.0.0.1", place), 1):  # one more, which says nothing and ends
+            time.sleep(0.1)
+    took, is_whole = time.monotonic() - begun, os.path.exists(copy) and os.path.getsize(copy) >= size
+    print(f"silent: {SILENT} connections that say nothing: the copy was {'' if is_whole else 'not '}whole after {took:.2f} s; follow "
+          f"{'goes on' if ended is None else f'ended with {ended}'}", flush=True)
+    for process in (stream, follower, server):
+        process.kill()
+    for stranger in strangers:
+        stranger.close()
+    return took, is_whole, ended
+
+
+ROWS = {"slow": slow, "burst": burst, "end": end, "silent": silent}
+
+
+def main():
+    reader = argparse.ArgumentParser(usage=__doc__)
+    reader.add_argument("program")
+    reader.add_argument("rows", nargs="*", choices=[*ROWS, []])
+    reader.add_argument("--seconds", type=float, default=20)
+    reader.add_argument("--kinds", nargs="+", choices=KINDS)
+    reader.add_argument("--folder")
+    asked = reader.parse_args()
+    night = Night(asked.program, asked.folder)
+    print(f"{asked.program}; {os.cpu_count()} processors, load {os.getloadavg()[0]:.1f}; folder {night.folder}", flush=True)
+    try:
+        for name in asked.rows or ROWS:
+            ROWS[name](night, asked)
+    finally:
+        night.end()
+    print(f"load {os.getloadavg()[0]:.1f}")
+
+
+if __name__ == "__main__":
+    main()
