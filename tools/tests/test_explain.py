@@ -1,4 +1,5 @@
 """Why a plan has no form, or no series, beside all sets of items; and the gap of an unproved form."""
+import io
 import itertools
 import os
 import random
@@ -12,7 +13,7 @@ import check_tree
 import data_of_bank_a as a
 from common import PROGRAM, TOOLS, Folder, needs_program
 from examination import BankItem, plan_of
-from explain import Program, clash, greatest_bound, used_by_series, without
+from explain import Program, clash, greatest_bound, irreducible, print_clash, rows_of, used_by_series, without
 from shadowtools.agency.clash_distance import distance
 from shadowtools.agency.program import alike
 from shadowtools.command import Refused
@@ -56,6 +57,37 @@ SERIES_CLASHES = [
     (2, "count 1 1 0-2\nenemies 0 3\nenemies 0 4\nenemies 0 5\ncount 1 2 0\n", ["count 1 2 0"],
      TIMES.format(2) + "The set of line 7 has 1 items, its low bound is 2."),
 ]
+
+
+class RowsOfTheTable(unittest.TestCase):
+    """A row on the items of each passage is one rule, of however many lines."""
+    TEXT = "length 18\nprior 0\n# row 0: p: Number Stimulus\nstimuli 2 4\n# each: Number Item Per Stimulus\n" + "".join(
+        f"stimulus {k} 2 2\n" for k in range(1, 25)) + "# row 1: c: Number Item K == x\ncount 0 9 0-8\n"
+
+    def printed(self, has_none):
+        """What is printed of the rows that stay, where a plan `has_none`; the number of rules that stay and of rows in all."""
+        kept, of = irreducible(self.TEXT, lambda rules, passages: list(rules), has_none)
+        out = io.StringIO()
+        print_clash(kept, of, 18, [BankItem(0, [], [], [])] * 20, out)
+        return out.getvalue().splitlines(), len(kept), of
+
+    def test_all_passages(self):
+        said, kept, of = self.printed(lambda plan: "stimuli" in plan and plan.count("stimulus ") == 24)
+        self.assertEqual((kept, of), (25, 3))
+        self.assertEqual(said[:3], ["These 2 of 3 rules cannot be met together in a test of 18 items:", "  line 4: stimuli 2 4   row 0: p: Number Stimulus",
+                                    "  lines 6 to 29: stimulus 1 2 2 and 23 more, 24 passages   each: Number Item Per Stimulus"])
+
+    def test_one_passage(self):
+        said, kept, of = self.printed(lambda plan: "stimuli" in plan and "stimulus 7 " in plan)
+        self.assertEqual((kept, of), (2, 3))
+        self.assertEqual(said[2], "  line 12: stimulus 7 2 2   each: Number Item Per Stimulus, passage 7")
+        said, kept, of = self.printed(lambda plan: "stimulus 7 " in plan and "stimulus 20 " in plan)
+        self.assertEqual((said[:2], kept, of), (["One of 3 rules cannot be met in a test of 18 items:",
+                                                 "  lines 12 to 25: stimulus 7 2 2 and 1 more, 2 passages   each: Number Item Per Stimulus"], 2, 3))
+
+    def test_lines_without_a_remark(self):
+        rules = plan_of("stimulus 1 2 2\nstimulus 2 2 2\n# a\nstimulus 3 1 2\n# b\nstimulus 4 1 2\nstimulus 5 1 2\n").rules
+        self.assertEqual([[rule.number for rule in row] for row in rows_of(rules)], [[1], [2], [3], [4, 5]])
 
 
 class Clash(Folder):

@@ -3,7 +3,8 @@
 usage: explain.py BANK PLAN [--series K] [--map MAP [--unbound]] [--program SHADOWD]      default $SHADOWD, else crates/shadowd/out/shadowd
 
 It runs `shadowd assemble`. Where no set of items meets the plan (status 11), it leaves out one rule after the
-other for as long as there is still no form. The rules that stay cannot be met together, and without any one of them
+other for as long as there is still no form. The lines of a row of the agency's table, which have one remark (as those of each passage),
+are one rule; of one that stays it then leaves out the passages that are not needed. The rules that stay cannot be met together, and without any one of them
 there is a form, or none was found within the base budget. Each step is a proved `no form`. Where a count shows it, a
 sentence has how far the rules are from a form ("the low bounds add up to 21, the length is 20").
 Where a form is unproved, it reads the proof tree. Each open leaf has a bound; the greatest of them bounds all forms.
@@ -90,36 +91,61 @@ def series_clash(program: Program, text: str, tree: str, count: int) -> Tuple[Li
                        lambda plan: program.series(plan, count)[0] == NO_SERIES)
 
 
+def rows_of(rules: Sequence[Rule]) -> List[List[Rule]]:
+    """The rules by row of the agency's table: lines of passages that follow one another below one remark are one row."""
+    rows: List[List[Rule]] = []
+    for rule in rules:
+        if rows and remark_of(rule) and remark_of(rule) == remark_of(rows[-1][0]):
+            rows[-1].append(rule)
+        else:
+            rows.append([rule])
+    return rows
+
+
+def remark_of(rule: Rule) -> str:
+    """The remark above the line of a passage; an empty text where there is none, or the rule is another."""
+    return rule.label.removesuffix(f", passage {rule.number}") if rule.kind == "stimulus" and rule.label != rule.text else ""
+
+
 def irreducible(text: str, named: Callable[[Sequence[Rule], bool], List[Rule]], has_none: Callable[[str], bool]) -> Tuple[List[Rule], int]:
-    """The rules that stay where one after the other is left out for as long as the plan `has_none`; and the number of all rules."""
+    """The rules that stay where one row after the other, and then one passage after the other, is left out for as long as the plan
+    `has_none`; and the number of all rows."""
     rules = plan_of(text).rules
-    kept = list(rules)
+    rows, kept = rows_of(rules), list(rules)
     guess = named(rules, any(rule.kind == "stimulus" for rule in rules))
     if len(guess) < len(kept) and has_none(without(text, rules, guess)):
         kept = guess
-    for rule in reversed(list(kept)):
-        fewer = [one for one in kept if one is not rule]
-        if has_none(without(text, rules, fewer)):
+    passages = [[rule] for row in rows if len(row) > 1 for rule in row]
+    for part in [*reversed(rows), *reversed(passages)]:
+        fewer = [rule for rule in kept if rule not in part]
+        if len(fewer) < len(kept) and has_none(without(text, rules, fewer)):
             kept = fewer
-    return kept, len(rules)
+    return kept, len(rows)
+
+
+def line_of(row: Sequence[Rule]) -> str:
+    """A row of a clash: its line of the plan with its remark; of several passages the first one, and how many there are."""
+    rule = row[0]
+    text = rule.text if len(rule.text) <= 60 else rule.text[:57] + "..."
+    if len(row) > 1:
+        return f"lines {rule.line} to {row[-1].line}: {text} and {len(row) - 1} more, {len(row)} passages   {remark_of(rule)}"
+    return f"line {rule.line}: {text}" + ("" if rule.label == rule.text else f"   {rule.label}")
 
 
 def print_clash(kept: Sequence[Rule], of: int, length: int, bank: Sequence[BankItem], out: Optional[TextIO] = None, forms: int = 1) -> None:
     """The rules that clash, and how far they are from a form, or from so many forms, where a count shows it."""
     of_what = f"a test of {length} items" if forms == 1 else f"{forms} forms of {length} items without common items"
-    far = distance(kept, bank, length, forms)
+    far, rows = distance(kept, bank, length, forms), rows_of(kept)
     if kept:
-        begin = f"These {len(kept)} of {of} rules cannot be met together" if len(kept) > 1 else f"One of {of} rules cannot be met"
+        begin = f"These {len(rows)} of {of} rules cannot be met together" if len(rows) > 1 else f"One of {of} rules cannot be met"
         print(f"{begin} in {of_what}:", file=out)
     else:
         print(f"No set of {length} items is a form by the length alone." if forms == 1 else f"The length alone rules out {of_what}.", file=out)
-    for rule in kept:
-        extra = "" if rule.label == rule.text else f"   {rule.label}"
-        text = rule.text if len(rule.text) <= 60 else rule.text[:57] + "..."
-        print(f"  line {rule.line}: {text}{extra}", file=out)
+    for row in rows:
+        print("  " + line_of(row), file=out)
     if far:
         print(far, file=out)
-    if len(kept) > 1:
+    if len(rows) > 1:
         print(f"Without any one of them there is a {'form' if forms == 1 else 'series'}, or none was found within the base budget.", file=out)
 
 
