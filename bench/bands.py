@@ -16,7 +16,10 @@ import sys
 import tempfile
 from typing import Dict, List, Sequence
 
-import numpy as np
+if __name__ == "__main__" and sys.argv[1:] == ["--help"]:    # before libraries that may not be there
+    sys.exit(print(__doc__))
+
+import numpy as np  # noqa: E402
 
 TOP = os.path.dirname(os.path.dirname(os.path.abspath(__file__)))
 sys.path.insert(0, os.path.join(TOP, "tools"))

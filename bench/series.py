@@ -433,4 +433,6 @@ def main(words):
 
 
 if __name__ == "__main__":
+    if sys.argv[1:] == ["--help"]:
+        sys.exit(print(__doc__))
     sys.exit(main(sys.argv[1:]))

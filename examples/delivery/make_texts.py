@@ -90,4 +90,6 @@ def main(folder):
 
 
 if __name__ == "__main__":
+    if sys.argv[1:] == ["--help"]:
+        sys.exit(print(__doc__))
     main(sys.argv[1] if len(sys.argv) > 1 else os.path.join(HERE, "texts"))

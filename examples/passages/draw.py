@@ -7,8 +7,12 @@ usual ranges; no real pool is meant. The seed is fixed.
 """
 import csv
 import os
+import sys
 
-import numpy as np
+if __name__ == "__main__" and sys.argv[1:] == ["--help"]:    # before libraries that may not be there
+    sys.exit(print(__doc__))
+
+import numpy as np  # noqa: E402
 
 HERE = os.path.dirname(os.path.abspath(__file__))
 ITEMS, IN_PASSAGES, LENGTH = 400, 240, 30

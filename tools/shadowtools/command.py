@@ -24,14 +24,23 @@ def print_utf8(text: str) -> None:
     out.write(text.encode("utf-8", "surrogatepass"))
 
 
+def wants_help(words: Sequence[str]) -> bool:
+    return list(words) in (["--help"], ["-h"])
+
+
 def as_command(main: Callable[[Sequence[str]], int]) -> Callable[[Optional[Sequence[str]]], int]:
     """A function of the words of the command line, by default the process's; it gives the exit status.
 
-    A refusal is printed on standard error, with status 1. A reader of the output that goes away (`| head`) ends it with 1 too."""
+    A refusal is printed on standard error, with status 1. A reader of the output that goes away (`| head`) ends it with 1 too. `--help`
+    alone prints the docstring of the function's module, unless the module has options of argparse, which print their own."""
     @functools.wraps(main)
     def command(words: Optional[Sequence[str]] = None) -> int:
+        given = sys.argv[1:] if words is None else words
         try:
-            status = main(sys.argv[1:] if words is None else words)
+            if wants_help(given) and "argparse" not in main.__globals__:
+                print(main.__globals__["__doc__"].strip())
+                return 0
+            status = main(given)
             sys.stdout.flush()
             return status
         except Refused as refused:

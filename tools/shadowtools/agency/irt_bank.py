@@ -284,7 +284,6 @@ def main(words: Sequence[str]) -> int:
     theta = ability_grid(given.grid, items, given.scaling, blueprint.length)
     warnings = require_prior(given.prior, theta)
     tables = Tables(items, quantities, theta, given.scaling, given.information_unit, given.log_unit)
-    require_information(given.prior, tables, blueprint.length)
     bands = advice_of(given, tables, blueprint.length)
     texts = texts_of(given, tables, blueprint, bands.points)
     warnings += blueprint.warnings + item_warnings(items, theta) + grid_warnings(given.prior, tables, blueprint.length)
@@ -298,6 +297,8 @@ def main(words: Sequence[str]) -> int:
     for warning in warnings:
         print("warning: " + warning, file=sys.stderr)
     status = tried(given, tables, blueprint, *texts[:2])
+    if status == DONE:
+        require_information(given.prior, tables, blueprint.length)
     if status != REFUSED:
         for end, text in zip(ENDS, texts + ((word_of(weights) + "\n",) if weights else ())):
             write(given.out + end, text)

@@ -25,6 +25,15 @@ def has_numpy(interpreter):
         return False
 
 
+class Counted(unittest.TextTestResult):
+    """A result that counts the tests that passed: a class whose setting up fails has tests that were not run."""
+    passed = 0
+
+    def addSuccess(self, test):
+        super().addSuccess(test)
+        self.passed += 1
+
+
 def main(words):
     if importlib.util.find_spec("numpy") is None and sys.executable != DEBIAN and has_numpy(DEBIAN):
         os.execv(DEBIAN, [DEBIAN, os.path.join(TOOLS, "run_tests.py"), *words])
@@ -32,13 +41,12 @@ def main(words):
         os.environ["SHADOWD"] = places.BUILT = os.path.abspath(words[0])
     sys.path[:0] = [TOOLS, os.path.join(TOOLS, "tests")]
     suite = unittest.defaultTestLoader.discover(os.path.join(TOOLS, "tests"), top_level_dir=os.path.join(TOOLS, "tests"))
-    result = unittest.TextTestRunner(stream=sys.stdout, verbosity=1).run(suite)
+    result = unittest.TextTestRunner(stream=sys.stdout, verbosity=1, resultclass=Counted).run(suite)
     for test, why in result.skipped:
         print(f"skipped {test.id()}: {why}")
     failed = len(result.failures) + len(result.errors) + len(result.unexpectedSuccesses)
-    passed = result.testsRun - failed - len(result.skipped)
     skipped = f", {len(result.skipped)} skipped" if result.skipped else ""
-    print(f"{passed} passed, {failed} failed{skipped}")
+    print(f"{result.passed} passed, {failed} failed{skipped}")
     return 1 if failed or result.testsRun == 0 else 0
 
 
