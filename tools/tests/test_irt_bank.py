@@ -195,6 +195,17 @@ class Bands(Converter):
         self.bands("--bands", "2", "--prior", "flat", "--grid", "-2", "2", "4")
         self.assertIn("\n# bands of abilities begin at 0.666667\nbands 2\n", self.read("o.plan.txt"))
 
+    def test_a_rate_of_visits(self):
+        """Ten of ten items: each is in every test. With four bands the rate 1 / 2 of visits can be met, and 1 / 5 cannot."""
+        words = ("--bands", "4", "--prior", "flat", "--grid", "-4", "4", "20")
+        for rate, wanted in (("2", "the rate 1/2 is of the visits of a band, and a session visits several of 4: on average an item is shown in 10/10"),
+                             ("5", "the rate 1/5 cannot be met with 4 bands: on average an item is shown in 10/10 of the sessions")):
+            self.write("items", self.ITEMS)
+            _, _, errors = self.tool("irt_bank", "--items", "items", "--out", "o", "--program", self.takes_all(), "--length", "10", "--rate", "1", rate,
+                                     "--key", "0" * 64, *words)
+            self.assertIn(wanted, errors)
+        self.assertNotIn("the rate", self.bands(*words)[2])
+
     def test_bands_without_a_rate(self):
         self.write("items", self.ITEMS)
         self.assertEqual(self.tool("irt_bank", "--items", "items", "--out", "o", "--length", "5", "--bands", "3"),

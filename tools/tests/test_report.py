@@ -7,6 +7,7 @@ import os
 import random
 import re
 import unittest
+import warnings
 from statistics import NormalDist
 from types import SimpleNamespace
 
@@ -14,7 +15,7 @@ from common import PAGE, Folder, needs_page
 from shadowtools.command import Refused
 from shadowtools.formats.examination import BankItem, Session, plan_of
 from shadowtools.needs import is_there
-from test_simulate import ATTRIBUTES, Examination, ExaminationWithBands, ExaminationWithRetakers
+from test_simulate import ATTRIBUTES, PARAMETERS, Examination, ExaminationWithBands, ExaminationWithRetakers
 
 if is_there(*PAGE):
     import numpy as np
@@ -22,6 +23,7 @@ if is_there(*PAGE):
 
     from shadowtools.agency.irt import Item
     from shadowtools.page import measures
+    from shadowtools.page.pictures import short_names
     from shadowtools.page.sections import alike, rule_row
     from shadowtools.page.study import Study, interval_bands, read_target, target_of
 
@@ -191,6 +193,27 @@ class AnotherMetric(Examination):
         self.assertFalse("logits" in page)
         for wanted in ("with a true ability between 40 and 60", "True ability (ability units)", ">40 to 60<", "7 points from 20 to 80 ability units"):
             self.assertTrue(wanted in page, wanted)
+
+
+@needs_page
+class LongNames(Examination):
+    def test_in_short(self):
+        self.assertEqual(short_names(["MATH_GRADE8_ALGEBRA_00017", "I1", "twelve chars"]), ["MATH_..00017", "I1", "twelve chars"])
+        self.assertEqual(short_names(["MATH_A_0000000017", "MATH_B_0000000017"]), ["MAT..017 #1", "MAT..017 #2"])
+
+    def test_the_page(self):
+        """Names of 26 letters leave room for the paths, and are whole in a table below; nothing warns."""
+        for name, text in (("items", PARAMETERS), ("attributes", ATTRIBUTES)):
+            self.write(name, re.sub(r"(?m)^I(\d)", r"MATHEMATICS_GRADE_8_00000\1", text))
+        words = ("--items", "items", "--attributes", "attributes", "--constraints", "constraints", "--out", "e", "--grid", "-3", "3", "7")
+        self.assertEqual(self.tool("irt_bank", *words)[0], 0)
+        self.simulate()
+        with warnings.catch_warnings():
+            warnings.simplefilter("error")
+            status, _, errors = self.tool("report", "e", "--run", "run", "--to", "page.html")
+        self.assertEqual((status, errors), (0, ""))
+        self.assertTrue('<td class="text">MATHE..00003</td><td class="text">MATHEMATICS_GRADE_8_000003</td>' in self.read("page.html"))
+        self.assertTrue(".pictures { grid-template-columns: minmax(0, 1fr) }" in self.read("page.html"))
 
 
 @needs_page
@@ -434,7 +457,13 @@ class PagesWithBands(ExaminationWithBands):
             self.assertAlmostEqual(max(rates), float(row[4]), 3)
             self.assertEqual(str(sum(rate > 2 / 3 for rate in rates)), row[6])
         above = sum(any(float(item[f"rate in band {k}"]) > 2 / 3 for k in range(3)) for item in items)
-        self.assertIn(f"{above} {'item is' if above == 1 else 'items are'} above the rate in some band of the estimate", page)
+        self.assertIn(f"{above} {'item is' if above == 1 else 'items are'} above the rate in some band of the estimate, 66.7% of its visits", page)
+        self.assertEqual([item["above_rate"] for item in items], [str(any(float(item[f"rate in band {k}"]) > 2 / 3 for k in range(3))) for item in items])
+        visits = sum(int(row[2]) for row in rows) / 12
+        exposure = max(float(item["exposure"]) for item in items)
+        self.assertIn(f"Of the tests, the greatest exposure is {exposure:.1%} (item ", page)
+        self.assertIn(f"a test visits {visits:.1f} bands in the mean, so an item at the rate is in about {2 / 3 * visits:.1%} of the tests.", page)
+        self.assertFalse("above the rate of 66.7%" in page)
         self.assertIn("The plan steers the rates of each band.", page)
 
     def test_bands_that_are_watched(self):

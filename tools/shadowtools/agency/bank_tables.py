@@ -185,7 +185,11 @@ def rounding_cost(step: float, error: float) -> float:
     return math.sqrt(1 + step * step / 12 / (error * error)) - 1
 
 
-def rate_warnings(rate: Optional[Sequence[int]], length: int, items: int) -> List[str]:
-    if rate and rate[0] * items < length * rate[1]:
-        return [f"the rate {rate[0]}/{rate[1]} cannot be met: on average an item is shown in {length}/{items} of the sessions"]
-    return []
+def rate_warnings(rate: Optional[Sequence[int]], length: int, items: int, bands: int = 1) -> List[str]:
+    """What is to be said of a rate below the mean exposure. With bands it is of visits, and a test visits one band to all."""
+    if not rate or rate[0] * items >= length * rate[1]:
+        return []
+    mean = f"on average an item is shown in {length}/{items} of the sessions"
+    if rate[0] * items * bands < length * rate[1]:
+        return [f"the rate {rate[0]}/{rate[1]} cannot be met" + (f" with {bands} bands" if bands > 1 else "") + f": {mean}"]
+    return [f"the rate {rate[0]}/{rate[1]} is of the visits of a band, and a session visits several of {bands}: {mean}, which is above it"]

@@ -287,7 +287,7 @@ def main(words: Sequence[str]) -> int:
     bands = advice_of(given, tables, blueprint.length)
     texts = texts_of(given, tables, blueprint, bands.points)
     warnings += blueprint.warnings + item_warnings(items, theta) + grid_warnings(given.prior, tables, blueprint.length)
-    warnings += ([] if bands.points else rate_warnings(given.rate, blueprint.length, len(items))) + bands.warnings
+    warnings += rate_warnings(given.rate, blueprint.length, len(items), len(bands.points) + 1) + bands.warnings
     weights = weights_of(given.weights, theta) if given.weights else []
     print_made(given, form, tables, blueprint)
     if weights:

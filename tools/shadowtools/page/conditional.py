@@ -27,7 +27,7 @@ def table(study: Study) -> Table:
     for band, (counts, name) in enumerate(zip(study.counts.watched, estimates_of(study))):
         rates, eligible = np.array(counts.rates()), np.array(counts.eligible)
         above, seen = int((rates > study.rate).sum()), counts.visited > 0
-        if above:
+        if above and study.is_per_visit and study.counts.watched is study.counts.bands:
             marked.append((band, 6))
         steps = ", ".join(map(str, sorted(counts.steps))) or "–"
         of_items = ["–"] * 5
@@ -35,5 +35,5 @@ def table(study: Study) -> Table:
             of_items = [f"{rates.max():.3f}", study.names[rates.argmax()], f"{above}", f"{(rates == 0).sum()}", f"{(eligible == 0).sum()}"]
         rows.append([f"{band}", name, f"{counts.visited:,}", f"{counts.visited / study.counts.total.visited:.1%}", *of_items,
                      f"{counts.aside:,}", steps])
-    return Table(["Band", f"Estimates ({study.unit})", *HEAD], rows, f"Rates in each band, of {len(study.items)} items; the rate of the plan is {study.rate:.3f}",
+    return Table(["Band", f"Estimates ({study.unit})", *HEAD], rows, f"Rates in each band, of {len(study.items)} items; the rate of the plan is {study.rate:.3f} of the {'visits of its bands' if study.is_per_visit else 'tests'}",
                  texts=2, marked=frozenset(marked))

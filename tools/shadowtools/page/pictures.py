@@ -1,6 +1,7 @@
 """The pictures of the page: SVG within the page, with text of one size and units on every axis."""
 import base64
 import io
+from typing import List
 
 import matplotlib
 import numpy as np
@@ -17,6 +18,7 @@ from matplotlib.ticker import MaxNLocator, PercentFormatter  # noqa: E402
 
 BLUE, RED, GREY, PALE = "#23609f", "#b5322a", "#6b6b6b", "#cfcfcf"
 HALF, WHOLE = 4.5, 9.2
+LONGEST_NAME, GAP = 12, ".."
 plt.rcParams.update({
     "font.size": 10.5, "axes.titlesize": 10.5, "axes.labelsize": 10.5, "xtick.labelsize": 10.5, "ytick.labelsize": 10.5,
     "legend.fontsize": 10.5, "legend.frameon": False, "legend.handlelength": 1.6, "axes.spines.top": False,
@@ -29,6 +31,21 @@ def half(height=3.2, legend=0):
     figure, axes = plt.subplots(figsize=(HALF, height))
     figure.subplots_adjust(left=0.84 / HALF, right=1 - 0.12 / HALF, top=1 - 0.12 / height, bottom=(0.6 + 0.24 * legend) / height)
     return figure, axes
+
+
+def shortened(name: str, most: int = LONGEST_NAME) -> str:
+    """A name of at most so many characters: a longer one without its middle. Its whole text is in the table below the picture."""
+    if len(name) <= most:
+        return name
+    last = (most - len(GAP)) // 2
+    return name[:most - len(GAP) - last] + GAP + name[-last:]
+
+
+def short_names(names) -> List[str]:
+    """Names for an axis. Where two would be the same in short, each has its place among these names behind it."""
+    short = [shortened(name) for name in names]
+    return [one if short.count(one) == 1 else f"{shortened(name, LONGEST_NAME - 4)} #{place}"
+            for place, (one, name) in enumerate(zip(short, names), 1)]
 
 
 def below(axes):
@@ -151,13 +168,13 @@ def band_axis(study: Study) -> str:
     return f"{study.short_name} ({study.unit})" if study.questions.by_estimate else f"true ability ({study.unit})"
 
 
-def rate_line(study: Study, axes) -> None:
-    """Shares from 0 to 1, with the rate of the plan where it has one."""
+def rate_line(study: Study, axes, is_per_visit: bool = False) -> None:
+    """Shares from 0 to 1, with the rate of the plan where it has one of the tests, or of the visits, as the shares are."""
     axes.set_ylim(0, 1.05)
     axes.set_yticks(np.linspace(0, 1, 6))
     shares(axes, "y")
-    if study.controlled:
-        axes.axhline(study.rate, color=RED, ls="--", lw=1.2, label=f"rate of the plan, {study.rate:.0%}")
+    if study.controlled and study.is_per_visit == is_per_visit:
+        axes.axhline(study.rate, color=RED, ls="--", lw=1.2, label=f"rate of the plan, {study.rate:.0%}{' of the visits' if is_per_visit else ''}")
         axes.set_ylim(0, 1.2)
         axes.legend(loc="upper right", borderaxespad=0)
 
@@ -168,11 +185,12 @@ def exposure_by_estimate(study: Study) -> Picture:
     colours = plt.get_cmap("viridis")(np.linspace(0, 0.85, len(study.counts.watched)))
     for band, (counts, name, colour) in enumerate(zip(study.counts.watched, estimates_of(study), colours)):
         axes.plot(sorted(counts.rates(), reverse=True), "-", color=colour, label=f"band {band}, {name}")
-    rate_line(study, axes)
+    rate_line(study, axes, True)
     axes.set(xlabel="items, from the most shown in the band", ylabel="share of the visits")
     axes.legend(loc="upper right", borderaxespad=0)
     return picture(figure, "Rates in each band of the estimate, sorted",
-                   f"The sorted rates of the items in each of {len(colours)} bands of the estimate, beside the rate of the plan.", wide=True)
+                   f"The sorted rates of the items in each of {len(colours)} bands of the estimate"
+                   f"{', beside the rate of the plan' if study.is_per_visit else ''}.", wide=True)
 
 
 def exposure_by_information(study: Study) -> Picture:
@@ -234,7 +252,8 @@ def path(study: Study, row: int) -> Picture:
     axes.plot(steps, mean, "-", color=BLUE, label="posterior mean (EAP)")
     axes.plot(steps, grid[mode], "o", ms=4, mfc="none", color=BLUE, label="mode, where the next item is chosen")
     axes.axhline(true, color="k", ls=":", lw=1.2, label="true ability")
-    axes.set_xticks(steps[:-1] + 0.5, [f"{study.names[item]}: {response}" for item, response in zip(session.items, session.responses)],
+    names = short_names(study.names)
+    axes.set_xticks(steps[:-1] + 0.5, [f"{names[item]}: {response}" for item, response in zip(session.items, session.responses)],
                     rotation=90)
     low, high = (mean - deviation).min(), (mean + deviation).max()
     axes.set(ylabel=f"ability ({study.unit})", xlim=(-0.3, len(steps) - 0.7), ylim=(min(low, true) - 0.3, max(high, true) + 0.3))
@@ -274,7 +293,8 @@ def draw_forms(study: Study, axes, session: Session, used) -> None:
             colour = BLUE if item in given else RED if item == one.item else PALE
             axes.add_patch(plt.Rectangle((place[item] - 0.42, step - 0.42), 0.84, 0.84, color=colour, lw=0))
     axes.set(xlim=(-0.6, len(used) - 0.4), ylim=(len(session.served) - 0.4, -0.6), ylabel="step", xlabel="item")
-    axes.set_xticks(range(len(used)), study.names[used], rotation=90)
+    names = short_names(study.names)
+    axes.set_xticks(range(len(used)), [names[item] for item in used], rotation=90)
     axes.yaxis.set_major_locator(MaxNLocator(integer=True))
 
 

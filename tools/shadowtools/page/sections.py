@@ -66,7 +66,9 @@ def digests_of(run: dict):
 
 
 def rate(study: Study) -> str:
-    return "/".join(map(str, study.examination.plan.rate)) if study.controlled else "none"
+    if not study.controlled:
+        return "none"
+    return "/".join(map(str, study.examination.plan.rate)) + (" of the visits of each band" if study.is_per_visit else " of the tests")
 
 
 # ---------------------------------------------------------------- rules
@@ -227,7 +229,10 @@ def exposure(study: Study) -> Section:
     if field.any():
         rows.append(("Items in field test, in the mean for a test",
                      f"{field.sum()} of {count}, {rates[field].sum():.2f}{named(study.names[field])}"))
-    if study.controlled:
+    if study.is_per_visit:
+        rows += [("Rate of the plan, per visit of a band", f"{study.rate:.3f}"), ("Bands that a test visits, mean", f"{study.visits:.2f}"),
+                 ("An item at the rate, share of the tests", f"about {study.rate * study.visits:.3f}")]
+    elif study.controlled:
         above = rates > study.rate
         rows.append((f"Items above the rate {study.rate:.3f}", f"{above.sum()}, the greatest by {max(0, (rates - study.rate).max()):.3f}"
                                                                f"{named(study.names[above])}"))
@@ -256,7 +261,8 @@ def most_shown(study: Study) -> Table:
     by_band = [study.exposure(band.members) for band in bands]
     order = np.argsort(-rates, kind="stable")[:MOST_NAMED]
     rows = [[study.names[item], f"{rates[item]:.3f}"] + [f"{one[item]:.2f}" for one in by_band] for item in order]
-    marked = frozenset((row, 1) for row, item in enumerate(order) if study.controlled and rates[item] > study.rate)
+    above = study.above_rate()
+    marked = frozenset((row, 1) for row, item in enumerate(order) if study.controlled and not study.is_per_visit and above[item])
     return Table(["Item", "Exposure"] + [band.label for band in bands], rows,
                  f"The {len(rows)} items that are shown most, in all and by band of ability", marked=marked)
 
@@ -266,7 +272,7 @@ def exposure_table(study: Study) -> Table:
     head = [f"Band ({study.unit})", "Tests", "Greatest exposure", "Item", "Never shown", "Mean overlap"]
     rows = [[row.band + (" (tails)" if row.added else ""), f"{row.examinees:,}", fixed(row.greatest_exposure), row.most_shown,
              f"{row.never_shown}", fixed(row.overlap)] for row in table.itertuples()]
-    if study.controlled:
+    if study.controlled and not study.is_per_visit:
         head.insert(4, "Above the rate")
         for cells, row in zip(rows, table.itertuples()):
             cells.insert(4, f"{row.above_rate}")
@@ -294,13 +300,24 @@ def chosen(study: Study) -> List[int]:
 
 
 def examinees(study: Study) -> Section:
-    return Section("examinees", "Three examinees", [Pictures([pictures.path(study, row) for row in chosen(study)]), Note(
+    rows = chosen(study)
+    shown = sorted({item for row in rows for item in study.sessions[row].items})
+    return Section("examinees", "Three examinees", [Pictures([pictures.path(study, row) for row in rows]), *whole_names(study, shown), Note(
         "The examinees are at the 5th, 50th and 95th percentile of true ability.")])
 
 
 def forms(study: Study) -> Section:
-    return Section("forms", "Forms step by step", [Pictures([pictures.forms(study, chosen(study)[1])]), Note(
+    row = chosen(study)[1]
+    used = sorted({item for one in study.sessions[row].served for item in one.form})
+    return Section("forms", "Forms step by step", [Pictures([pictures.forms(study, row)]), *whole_names(study, used), Note(
         "Each row is the whole form that was assembled before an item was served; each meets all rules.")])
+
+
+def whole_names(study: Study, items: Sequence[int]) -> List[Table]:
+    """A table with the whole names of the items that a picture has in short; none where it has them whole."""
+    short = pictures.short_names(study.names)
+    rows = [[short[item], study.names[item]] for item in items if short[item] != study.names[item]]
+    return [Table(["In the picture", "Item"], rows, texts=2)] if rows else []
 
 
 # ---------------------------------------------------------------- certificates
@@ -343,7 +360,8 @@ def items(study: Study) -> Section:
     column = 2 + passages
     marked = frozenset((k, column) for k, row in enumerate(table.itertuples()) if study.controlled and row.above_rate)
     return Section("items", "Items", [Table(head, rows, texts=1 + passages, marked=marked), Note(
-        "Shown and eligible are counted over the sample. A step is counted from 0. An exposure above the rate is marked.")])
+        "Shown and eligible are counted over the sample. A step is counted from 0. An item above the rate is marked" + (
+            ": in the visits of some band." if study.is_per_visit else "."))])
 
 
 def plan(study: Study) -> Section:

@@ -146,6 +146,9 @@ class Study:
         self.broken_second = broken_rules(rules, [second for _, second in retakes.pairs], examination.bank) if retakes else []
         self.rate = examination.plan.rate[0] / examination.plan.rate[1]
         self.controlled = self.rate < 1
+        # Where the plan has bands its rate is of the visits of a band, of which a test has so many in the mean; else of the tests.
+        self.is_per_visit = self.controlled and bool(examination.plan.points)
+        self.visits = sum(band.visited for band in counts.bands) / max(1, counts.total.visited)
         self.bands = self.bands_by(self.people.theta if questions.by_estimate else self.people.true)
         self.bands_of_truth = self.bands_by(self.people.true)
 
@@ -197,6 +200,12 @@ class Study:
     def exposure(self, members: np.ndarray) -> np.ndarray:
         """By item the share of these sessions in which it was shown."""
         return self.shown[members].mean(0)
+
+    def above_rate(self) -> np.ndarray:
+        """By item whether it was shown above the rate: in the visits of some band where the rate is of these, else in the tests."""
+        if self.is_per_visit:
+            return (np.array([band.rates() for band in self.counts.bands]) > self.rate).any(0)
+        return self.exposure(self.sample) > self.rate
 
     def overlap(self, members: np.ndarray) -> float:
         return mean_overlap(self.shown[members], self.length)
@@ -255,7 +264,7 @@ def table_by_item(study: Study) -> pd.DataFrame:
         "passage": [passages[item.passage - 1] if 0 < item.passage <= len(passages) else "" for item in study.items],
         "field_test": [item.model == FIELD for item in study.items], "shown": study.shown[sample].sum(0),
         "exposure": exposure, "eligible": study.eligible[sample].mean(0),
-        "rate": study.rate, "above_rate": exposure > study.rate, "never_shown": exposure == 0,
+        "rate": study.rate, "above_rate": study.above_rate(), "never_shown": exposure == 0,
         "greatest_information": information.max(1), "at_ability": theta[information.argmax(1)],
         "mean_step": [float(np.mean(one)) if one else np.nan for one in steps]})
     for band in study.bands:

@@ -71,6 +71,12 @@ def exposure(study: Study) -> Iterator[Verdict]:
         yield Verdict(MEASURED, f"The plan has no exposure rate. Of {len(rates)} items {counted((rates > 0.9).sum())} shown in more "
                                 f"than 90% of the tests, and {unseen}.")
         return
+    if study.is_per_visit:
+        yield exposure_by_estimate(study)
+        yield Verdict(MEASURED, f"Of the tests, the greatest exposure is {rates.max():.1%} (item {most}), and {study.length / len(rates):.1%} in the mean. "
+                                f"The rate is of visits: a test visits {study.visits:.1f} bands in the mean, so an item at the rate is in about "
+                                f"{study.rate * study.visits:.1%} of the tests. Of {len(rates)} items {unseen}.")
+        return
     above = int((rates > study.rate).sum())
     yield Verdict(NOT_MET if above else MET, f"{above} {'item is' if above == 1 else 'items are'} above the rate of {study.rate:.1%}; "
                                              f"the greatest exposure is {rates.max():.1%} (item {most}). Of {len(rates)} items {unseen}.")
@@ -83,9 +89,11 @@ def exposure_by_estimate(study: Study) -> Verdict:
     rates = np.array([counts.rates() for counts in study.counts.watched])
     above = int((rates > study.rate).any(0).sum())
     band, item = np.unravel_index(rates.argmax(), rates.shape)
+    greatest = f"the greatest rate is {rates.max():.1%} of the visits (item {study.names[item]} in band {band})"
+    if study.counts.watched is not study.counts.bands:
+        return Verdict(MEASURED, f"In the bands that are watched, which the plan does not steer, {greatest}.")
     return Verdict(NOT_MET if above else MET, f"{above} {'item is' if above == 1 else 'items are'} above the rate in some band of the "
-                                              f"estimate; the greatest rate is {rates.max():.1%} of the visits (item "
-                                              f"{study.names[item]} in band {band}).")
+                                              f"estimate, {study.rate:.1%} of its visits; {greatest}.")
 
 
 def counted(number: int) -> str:
