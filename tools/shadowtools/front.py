@@ -30,13 +30,16 @@ COMMANDS = {
     "explain": "agency.explain", "custody": "agency.custody_folder", "rate": "agency.rate",
     "audit": "checkers.audit", "tree": "checkers.check_tree",
     "series-check": "checkers.check_series"}
+# Options by which a command has another page of help.
+PAGES = {("report", "--journal"): "agency.window_report", ("report", "--prices"): "agency.price"}
 SCRIPTS = {module.rpartition(".")[2]: name for name, module in COMMANDS.items()}
 
 
-def help_of(command: str) -> str:
+def help_of(command: str, words: Sequence[str] = ()) -> str:
     """What `--help` of a command prints: the docstring of its module, with the words of the front door in the place of the names of
     scripts. The module is read and not imported, so no library is needed."""
-    found = importlib.util.find_spec("shadowtools." + COMMANDS[command])
+    module = next((PAGES[command, word] for word in words if (command, word) in PAGES), COMMANDS[command])
+    found = importlib.util.find_spec("shadowtools." + module)
     with open(found.origin, encoding="utf-8") as file:
         text = ast.get_docstring(ast.parse(file.read()))
     scripts = "|".join(map(re.escape, SCRIPTS))
@@ -52,7 +55,7 @@ def main(words: Sequence[str]) -> int:
         return 2
     command, *rest = words
     if "-h" in rest or "--help" in rest:
-        print(help_of(command))
+        print(help_of(command, rest))
         return 0
     return importlib.import_module("shadowtools." + COMMANDS[command]).command(rest)
 

@@ -186,7 +186,8 @@ def main(words):
         print(f"bank items {len(office.bank)} grid {points} quantities 0 stimuli 0")
         return 0
     if words[1] == "assemble":
-        problem = Office(*words[2:4]).problem
+        office = Office(*words[2:4])
+        problem = office.problem._replace(theta=office.plan.start)
         best = check_tree.best_of_all(problem)
         print("form", *sorted(best))
         print("objective", check_tree.objective(problem, best), "proved nodes 1")

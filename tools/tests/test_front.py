@@ -25,6 +25,11 @@ class Help(unittest.TestCase):
                 self.assertEqual((status, errors), (0, ""))
                 self.assertIn(f"usage: shadow {name} ", out)
 
+    def test_reports_of_other_kinds(self):
+        for option, word in (("--journal", "--annul FILE"), ("--prices", "--rules-only")):
+            status, out, errors = said("report", option, "--help")
+            self.assertEqual((status, errors, word in out), (0, "", True))
+
     def test_help_names_each_command(self):
         status, out, errors = said("--help")
         self.assertEqual((status, errors), (0, ""))

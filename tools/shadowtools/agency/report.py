@@ -5,6 +5,7 @@ usage: report.py PREFIX --run OUT --to REPORT.html [options]
        report.py PREFIX --series LINES --to REPORT.html [--target ..] [--template FILE]
        report.py PREFIX --journal JOURNAL --record RECORD --to REPORT.html [..]      a window of real examinees;
                                                                      report.py --journal --help has its options
+       report.py PREFIX --prices --to REPORT.html [..]      what each rule costs, and which items to write; report.py --prices --help
 
   --target FILE                  what a test is to measure: a CSV table with the columns ability and information, or ability and
                                  se (standard error, in logits); or --target LOW HIGH INFORMATION
@@ -47,10 +48,11 @@ import jinja2  # noqa: E402
 import numpy as np  # noqa: E402
 import pandas as pd  # noqa: E402
 
-from shadowtools.agency import window_report  # noqa: E402
+from shadowtools.agency import price, window_report  # noqa: E402
 from shadowtools.agency.custody import sha256_of  # noqa: E402
 from shadowtools.agency.expected import unit_of  # noqa: E402
 from shadowtools.agency.retakers import Retakes, retakes_of  # noqa: E402
+from shadowtools.agency.score import table_text, write  # noqa: E402
 from shadowtools.agency.scoring import (OPTIONS, SHORT_NAMES, Scorer, add_reporting, reporting_of,  # noqa: E402
                                         reporting_of_record)
 from shadowtools.agency.series_weights import read_weights  # noqa: E402
@@ -60,7 +62,7 @@ from shadowtools.formats.examination import Session, read_journal, require_point
 from shadowtools.formats.exposure import Exposure, exposure_of  # noqa: E402
 from shadowtools.formats.tables import text_of  # noqa: E402
 from shadowtools.options import Options, finite, require_folder, whole  # noqa: E402
-from shadowtools.page import series as series_page, window as window_page  # noqa: E402
+from shadowtools.page import price as price_page, series as series_page, window as window_page  # noqa: E402
 from shadowtools.page.parts import UNBOUND, Section, Verdict  # noqa: E402
 from shadowtools.page.pictures import at_a_glance  # noqa: E402
 from shadowtools.page.sections import chosen, sections  # noqa: E402
@@ -231,7 +233,28 @@ def page_of_window(words: Sequence[str]) -> int:
     return window_report.write_report(given, found, text)
 
 
+def page_of_prices(words: Sequence[str]) -> int:
+    """Writes the page on the price of each rule and its tables. The exit status."""
+    given = price.options(words, TEMPLATE)
+    examination = load(given.prefix)
+    try:
+        found = price.prices_of(examination, given.program, given.at, given.rules_only, window_report.tell)
+    except price.WithoutForm as refused:
+        print(refused, file=sys.stderr)
+        return refused.status
+    digests = [(name, examination.sha256[name]) for name in ("bank", "plan", "map")] + [("program", sha256_of(given.program))]
+    lead = f"Tests of {examination.plan.length} items from a bank of {len(examination.items)}. {now()}. Revision of the tools {revision()}."
+    text = page(given.template, f"The price of each rule: {os.path.basename(given.prefix)}", lead, price_page.verdicts(found),
+                price_page.sections(found, digests))
+    for path, content in zip((given.to, *price.beside_page(given.to)), (text, *map(table_text, price.tables_of(found)))):
+        write(path, content)
+    print(f"{given.to}: {len(found.rows)} rules, {len(found.gains)} items to write, {found.forms} forms")
+    return 0
+
+
 def main(words: Sequence[str]) -> int:
+    if "--prices" in words:
+        return page_of_prices(words)
     if any(word.partition("=")[0] == "--journal" for word in words):
         return page_of_window(words)
     given = options(words)
