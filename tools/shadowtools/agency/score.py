@@ -36,6 +36,8 @@ for each session:
   --answers FILE    also writes the answers, one line each: session, booking, step, item, response
   --shown FILE      also writes the items that each session was shown, answered or not: session, booking, and their numbers in the bank
                     as a set such as `0 2-4`. That is the list with which another sitting of the person is begun
+  --sheets FOLDER   also writes a score sheet of each session, booking-B.html and booking-B.pdf, without items and with the name left blank;
+                    the folder is made, or is empty. Needs python3-matplotlib
   --record FILE     also writes what the scores were made of, as JSON: digests, options, the line of the audit, numbers of sessions
   --program SHADOWD the program that audits; default $SHADOWD, else crates/shadowd/out/shadowd; without one tools/audit.py audits
 
@@ -53,6 +55,7 @@ from typing import Dict, Iterator, List, Optional, Sequence, Tuple
 
 from shadowtools.agency.custody import Documents, audited, read_documents, sha256_of
 from shadowtools.agency.scoring import Scorer, add_reporting, mode, moments, reporting_of
+from shadowtools.agency.sheets import require_empty, write_sheets
 from shadowtools.command import Refused, as_command, print_utf8
 from shadowtools.formats.examination import Session, read_journal, sessions_of
 from shadowtools.formats.tables import runs, text_of
@@ -67,7 +70,7 @@ def options(words: Sequence[str]) -> argparse.Namespace:
     parser = Options(__doc__)
     for name in ("bank", "plan", "map"):
         parser.add_argument(name, nargs="?")
-    for name in ("journal", "lines", "script", "answers", "shown", "record"):
+    for name in ("journal", "lines", "script", "answers", "shown", "record", "sheets"):
         parser.add_argument("--" + name)
     parser.add_argument("--program", default=BUILT)
     add_reporting(parser)
@@ -83,6 +86,8 @@ def options(words: Sequence[str]) -> argparse.Namespace:
     for option, path in (("--answers", found.answers), ("--shown", found.shown), ("--record", found.record)):
         if path:
             require_folder(option, path)
+    if found.sheets:
+        require_empty(found.sheets)
     return found
 
 
@@ -244,6 +249,8 @@ def main(words: Sequence[str]) -> int:
         write(given.shown, shown_text(sessions))
     if given.record:
         write(given.record, record_text(given, documents, audit, rows, result))
+    if given.sheets:
+        write_sheets(given.sheets, [dict(zip(COLUMNS, row)) for row in rows], scorer.scale)
     print_utf8(result)
     return 0
 
