@@ -62,7 +62,7 @@ from shadowtools.formats.examination import Session, read_journal, require_point
 from shadowtools.formats.exposure import Exposure, exposure_of  # noqa: E402
 from shadowtools.formats.tables import text_of  # noqa: E402
 from shadowtools.options import Options, finite, require_folder, whole  # noqa: E402
-from shadowtools.page import price as price_page, series as series_page, window as window_page  # noqa: E402
+from shadowtools.page import appeal as appeal_page, price as price_page, series as series_page, window as window_page  # noqa: E402
 from shadowtools.page.parts import UNBOUND, Section, Verdict  # noqa: E402
 from shadowtools.page.pictures import at_a_glance  # noqa: E402
 from shadowtools.page.sections import chosen, sections  # noqa: E402
@@ -224,6 +224,8 @@ def page_of_series(given: argparse.Namespace) -> int:
 def page_of_window(words: Sequence[str]) -> int:
     """Writes the page of a window of real examinees and its tables. The exit status."""
     given = window_report.options(words, TEMPLATE)
+    if given.is_appeal:
+        return page_of_appeal(given)
     found = window_report.findings(given, window_report.tell)
     window = found.window
     lead = f"{window_page.count(len(window.complete), 'complete test')} of {window_page.count(len(window.sessions), 'session')}, each of {window.length} " \
@@ -231,6 +233,17 @@ def page_of_window(words: Sequence[str]) -> int:
     text = page(given.template, f"Technical report of a window: {os.path.basename(given.prefix)}", lead, window_page.verdicts(found),
                 window_page.sections(found))
     return window_report.write_report(given, found, text)
+
+
+def page_of_appeal(given: argparse.Namespace) -> int:
+    """Writes the page of one session. The exit status."""
+    found = window_report.appeal(given, window_report.tell)
+    lead = f"Examination {os.path.basename(given.prefix)}, booking {found.session.booking}, session {found.number}. For the appeal board: it names items, and " \
+           f"is confidential. {now()}."
+    write(given.to, page(given.template, "One examinee's test, step by step", lead, appeal_page.verdicts(found), appeal_page.sections(found)))
+    print(f"{given.to}: session {found.number}, booking {found.session.booking}, score {found.row['scale'] or 'none'}, audits "
+          f"{'agree' if found.audits.agree else 'DISAGREE'}")
+    return 0 if found.holds else 1
 
 
 def page_of_prices(words: Sequence[str]) -> int:

@@ -1,6 +1,7 @@
 """The technical report of a window of real examinees, as one page of HTML for those who sign it. No number needs a true ability.
 
 usage: report.py PREFIX --journal JOURNAL --record RECORD --to REPORT.html [options]
+       report.py PREFIX --journal JOURNAL --record RECORD --to PAGE.html --session N | --booking B [--seals FILE ..]
 
   --seals FILE ..    seals of the journal, as `audit.py --seal` printed them; each must be one of this journal
   --annul FILE       a table booking,reason: sessions that count in no number of the page
@@ -8,17 +9,20 @@ usage: report.py PREFIX --journal JOURNAL --record RECORD --to REPORT.html [opti
   --times FILE       a table booking,step,shown,answered of the application: seconds or ISO 8601; steps count from 0
   --bands S ..       edges of bands of the reported score; default the mean of the plan's prior and one and two of its deviations
   --seed N           of the simulated limits of person fit and of the second sittings; default 1
+  --session N, --booking B
+                     the page for an appeal: one session step by step, for a board. It names items, and is confidential
   --template FILE    another template for jinja2 than report.html of these tools
   --program SHADOWD  the program that audits; default $SHADOWD, else crates/shadowd/out/shadowd
 
 RECORD is that of `score.py --record` for this journal: bank, plan, map and journal must be those of its digests, and the results are
 made again by its options and compared with its digest. The journal is audited by the program and by tools/audit.py, which takes some
-seconds for each hundred tests. Beside the page are written REPORT.items.csv, a line for each item with its exposure and fit, and
+seconds for each hundred tests; so it is for the page of one session, since eligibility rests on the others. Beside the report are written REPORT.items.csv, a line for each item with its exposure and fit, and
 REPORT.sessions.csv, a line for each session with its score and lz.
 
 Exit status: 0; 1 where a file is refused, the two audits do not agree, a seal is of another journal, or a test breaks a rule.
 """
 import argparse
+import csv
 import os
 import sys
 from typing import Callable, Dict, List, Optional, Sequence, Tuple
@@ -36,11 +40,12 @@ from shadowtools.command import Refused
 from shadowtools.formats.examination import Session, read_journal
 from shadowtools.formats.exposure import exposure_of
 from shadowtools.options import Options, finite, require_folder, whole
+from shadowtools.page.appeal import Appeal
 from shadowtools.page.parts import UNBOUND
 from shadowtools.page.window import FEWEST, Findings, Group
 from shadowtools.places import BUILT, revision
 
-SIGMAS = (-2, -1, 0, 1, 2)
+SIGMAS, MOST_SESSION = (-2, -1, 0, 1, 2), 65_535
 
 
 def options(words: Sequence[str], template: str) -> argparse.Namespace:
@@ -50,13 +55,22 @@ def options(words: Sequence[str], template: str) -> argparse.Namespace:
         parser.add_argument("--" + name)
     parser.add_argument("--seals", nargs="+", default=[])
     parser.add_argument("--bands", nargs="+", type=finite)
-    parser.add_argument("--seed", type=whole(0, MOST_SEED), default=1)
+    parser.add_argument("--seed", type=whole(0, MOST_SEED))
+    parser.add_argument("--session", type=whole(0, MOST_SESSION))
+    parser.add_argument("--booking", type=whole(0, 10 ** 18 - 1))
     parser.add_argument("--template", default=template)
     parser.add_argument("--program", default=BUILT)
     found = parser.read(words, lambda given: bool(given.prefix and given.journal and given.record and given.to))
+    found.is_appeal = found.session is not None or found.booking is not None
+    if found.session is not None and found.booking is not None:
+        raise Refused("--session or --booking, and not both")
+    for name in ("annul", "persons", "times", "bands", "seed"):
+        if found.is_appeal and getattr(found, name) is not None:
+            raise Refused(f"--{name} is about a window; it is not used with --session or --booking")
+    found.seed = 1 if found.seed is None else found.seed
     if found.bands and sorted(set(found.bands)) != found.bands:
         raise Refused(f"--bands {' '.join(f'{edge:g}' for edge in found.bands)}: scores that ascend")
-    for path in (found.to, *beside_page(found.to)):
+    for path in (found.to, *(() if found.is_appeal else beside_page(found.to))):
         require_folder("--to", path)
     return found
 
@@ -129,6 +143,36 @@ def findings(given: argparse.Namespace, tell: Callable[[str], None]) -> Findings
                     [("Seed of what is simulated", str(given.seed)), ("Revision of the tools", revision())]
                     + ([] if examination.is_bound else [UNBOUND]),
                     digests_of(given, examination, results.record, program))
+
+
+def appeal(given: argparse.Namespace, tell: Callable[[str], None]) -> Appeal:
+    """All that the page of one session is made of."""
+    record = read_record(given.record)
+    examination = load(given.prefix, may_be_unbound(record))
+    require_own(given.record, record, dict(examination.sha256, journal=sha256_of(given.journal)))
+    entries = read_journal(given.journal)
+    sessions = exposure_of(entries, examination.bank, examination.plan).sessions
+    number = session_of(given, sessions)
+    program = given.program if given.program and os.path.exists(given.program) else None
+    audits = audits_of(examination, given.journal, program, tell)
+    results = results_of(given.record, examination, given.journal, sessions)
+    row = list(csv.DictReader(results.text.splitlines()))[number]
+    own = [place for place, entry in enumerate(entries, 1) if entry.session == number]
+    facts = [("Revision of the tools", revision())] + ([] if examination.is_bound else [UNBOUND])
+    return Appeal(examination, results.scorer, sessions[number], number, row, (own[0], own[-1], len(entries)), audits,
+                  seals_of(given.journal, given.seals), facts, digests_of(given, examination, record, program))
+
+
+def session_of(given: argparse.Namespace, sessions: Sequence[Session]) -> int:
+    """The number of the session that is asked for."""
+    if given.session is not None:
+        if given.session >= len(sessions):
+            raise Refused(f"--session {given.session}: the journal has {len(sessions)} sessions, from 0")
+        return given.session
+    found = [number for number, session in enumerate(sessions) if session.booking == given.booking]
+    if not found:
+        raise Refused(f"--booking {given.booking}: the journal has no such booking")
+    return found[0]
 
 
 def digests_of(given: argparse.Namespace, examination: Examination, record: dict, program: Optional[str]) -> List[Tuple[str, str]]:
