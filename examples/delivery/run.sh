@@ -32,12 +32,12 @@ program=$(readlink -f "${SHADOWD:-$here/../../crates/shadowd/out/shadowd}")
 "$python" -c 'import flask, flask_wtf, waitress' ||
     refuse "needs: apt-get install python3-flask python3-flaskext.wtf python3-waitress" 1
 "$python" - "$port" <<'PORTS' || exit 1
-import socket, sys
+import os, socket, sys
 for port in range(int(sys.argv[1]), int(sys.argv[1]) + 3):
     try:
         socket.create_server(("127.0.0.1", port)).close()
     except OSError as error:
-        sys.exit(f"port {port} of the three from {sys.argv[1]} on can't be had: {error.strerror}. Nothing was started. "
+        sys.exit(f"port {port} of the three from {sys.argv[1]} on can't be had: {os.strerror(error.errno)}. Nothing was started. "
                  "Give another port by PORT=N, or end what listens there")
 PORTS
 

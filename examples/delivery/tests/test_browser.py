@@ -266,7 +266,7 @@ class Sittings(InBrowser):
         self.assertRegex(self.text(driver), r"Time left: (30:00|29:\d\d)")
         desk.pause(70)
         self.title(driver, "Your test is paused")
-        desk.extend(70, 12 - desk.clock(70).left(desk.now()))
+        desk.extend(70, 8 - desk.clock(70).left(desk.now()))
         desk.resume(70)
         self.title(driver, "Item 1 of")
         self.assertIn("Less than one minute is left.", self.text(driver))
@@ -416,6 +416,13 @@ class Looks(InBrowser):
     def staff_pages(self, driver):
         """A proctor gives extra time and a new code, on pages whose fields have names."""
         self.desk().issue(71)
+        driver.get(self.control + "?renew=no")  # without the script, which is loaded here with a clock that stands still
+        driver.execute_script("setInterval = act => { window.renew = act; }; window.mark = 1")
+        driver.execute_script("const one = document.createElement('script'); one.src = '/static/control.js'; document.head.append(one)")
+        wait_until(lambda: driver.execute_script("return window.renew !== undefined"), "the script")
+        driver.find_element("id", "text").send_keys("7")
+        driver.execute_script("document.activeElement.blur(); window.renew()")
+        self.assertEqual(driver.execute_script("return [window.mark, document.getElementById('text').value]"), [1, "7"])
         driver.get(self.control + "?renew=no")
         self.assertIn(("table", "Bookings 1 to 2 of 2. A line is marked where the last answer is more than 180 seconds old. Times are in UTC."), self.look(driver, "bookings"))
         driver.find_element("link text", "71").click()

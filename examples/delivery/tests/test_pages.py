@@ -632,6 +632,7 @@ class Texts(WithStandIn):
         self.assertNotIn("<script>", Client(self.app).get("/nowhere/<script>").get_data(as_text=True))
 
     def test_files_that_are_refused(self):
+        from item_texts import read_item
         from settings import BadInput
         good = {"text": '"a"', "options": '["a", "b"]', "responses": "[0, 1]"}
         for name, fields in (("no TOML", {"text": "a"}), ("empty text", {"text": '" "'}), ("a number", {"text": "7"}),
@@ -644,7 +645,14 @@ class Texts(WithStandIn):
                 self.own_texts()
                 self.write("texts/V1.toml", "".join(f"{key} = {value}\n" for key, value in (good | fields).items()))
                 with self.assertRaisesRegex(BadInput, "V1"):
-                    self.make_app()
+                    read_item(self.path("texts"), "V1", 2, None)
+
+    def test_a_file_that_is_refused_at_the_start(self):
+        from settings import BadInput
+        self.own_texts()
+        self.write("texts/V1.toml", "text = 7")
+        with self.assertRaisesRegex(BadInput, "V1"):
+            self.make_app()
 
     FORMULA = '<math alttext="x squared"><msup><mi>x</mi><mn>2</mn></msup><mo>&lt;</mo><mfrac><mn>1</mn><mi>n</mi></mfrac></math>'
 
@@ -657,6 +665,7 @@ class Texts(WithStandIn):
         self.assertIn("<span>x &lt; 2</span>", page)
 
     def test_formulas_that_are_refused(self):
+        from item_texts import read_item
         from settings import BadInput
         self.own_texts()
         for inside in ("<script>alert(1)</script>", "<mi onclick='x'>x</mi>", "<mi style='color:red'>x</mi>", "<mtext><img src='x'/></mtext>", "<mi>x",
@@ -664,7 +673,7 @@ class Texts(WithStandIn):
             with self.subTest(inside):
                 self.write("texts/V1.toml", f"text = '''<math>{inside}</math>'''\noptions = ['a', 'b']\nresponses = [0, 1]\n")
                 with self.assertRaisesRegex(BadInput, "V1: a formula "):
-                    self.make_app()
+                    read_item(self.path("texts"), "V1", 2, None)
 
     def test_pictures(self):
         """Each has its text, is had by who was shown the item alone, and is kept in no cache."""
@@ -673,6 +682,7 @@ class Texts(WithStandIn):
             file.write(b"\x89PNG and so on")
         self.write("texts/two.svg", "<svg/>")
         self.write("texts/V1.toml", self.read("texts/V1.toml") + "pictures = [{ file = 'one.png', text = 'A \"map\"' }, { file = 'two.svg', text = 'b' }]\n")
+        self.write("texts/V2.toml", self.read("texts/V2.toml") + "pictures = [{ file = 'two.svg', text = 'of an item that was not shown' }]\n")
         client = self.begun(70, self.make_app())
         found = re.findall(r'<img src="([^"]*)" alt="([^"]*)">', client.page)
         self.assertEqual(found, [("/picture/0/0", "A &#34;map&#34;"), ("/picture/0/1", "b")])
@@ -685,6 +695,7 @@ class Texts(WithStandIn):
         self.assertEqual(Client(self.app).client.get("/picture/0/0").status_code, 303)
 
     def test_pictures_that_are_refused(self):
+        from item_texts import read_item
         from settings import BadInput
         self.own_texts()
         self.write("texts/one.png", "PNG")
@@ -696,7 +707,7 @@ class Texts(WithStandIn):
             with self.subTest(entry):
                 self.write("texts/V1.toml", f"{good}pictures = [{entry}]\n")
                 with self.assertRaises(BadInput) as caught:
-                    self.make_app()
+                    read_item(self.path("texts"), "V1", 2, None)
                 self.assertIn("one.png" if "../" in entry else "V1: ", str(caught.exception))
 
     def test_names_that_lead_elsewhere(self):
