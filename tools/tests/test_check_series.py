@@ -123,6 +123,59 @@ class Trees(Folder):
             status, said, _ = self.tool("check_series", "bank", "two", "2", "0,1,0", "--printed", self.write("lines", text))
             self.assertEqual((status, said), wanted)
 
+    def test_printed_spellings(self):
+        """Each line has one spelling: nothing else is taken that has the same meaning."""
+        tree = write_tree([POOL], [(BOUND, 0)]).hex()
+        lines = f"series 2 value 15 proved nodes 1\nform 1 5\nform 2 3\ntree {tree}\n"
+        others = {
+            "capitals": lines.replace(tree, tree.replace("0a", "0A")),
+            "spaces within the tree": lines.replace(tree, tree[:2] + " " + tree[2:]),
+            "a plus": lines.replace("15", "+15"),
+            "a leading zero": lines.replace("15", "015"),
+            "an underscore": lines.replace("15", "1_5"),
+            "a word more": lines.replace("nodes 1\n", "nodes 1 or so\n"),
+            "an item with a leading zero": lines.replace("form 1 5", "form 01 5"),
+            "an item twice": lines.replace("form 1 5", "form 1 5 5"),
+            "carriage returns": lines.replace("\n", "\r\n"),
+            "form feeds": lines.replace("\n", "\f"),
+            "no last line feed": lines[:-1],
+            "an empty line more": lines + "\n",
+            "two bounds": lines.replace("proved", "unproved") + f"at most 15 tree {tree}\n" * 2,
+            "a letter outside ASCII": lines.replace("15", "1\u0665"),
+        }
+        self.assertEqual(len(set(others.values()) | {lines}), len(others) + 1)
+        for name, text in others.items():
+            status, said, _ = self.tool("check_series", "bank", "two", "2", "0,1,0", "--printed", self.write("lines", text))
+            self.assertEqual((status, said.startswith("does not agree: ")), (1, True), name)
+
+    def test_printed_none(self):
+        """After `no series T` no line follows."""
+        tree = "010006" + "".join("01%02x00000001" % i for i in range(6)) + "0300"
+        for text, wanted in ((f"no series {tree}\n", (0, "agreed\n")),
+                             (f"no series {tree}\nform 1 5\n", (1, "does not agree: the number of lines\n")),
+                             (f"no series {tree}", (1, "does not agree: the end of the last line\n"))):
+            status, said, _ = self.tool("check_series", "bank", "four", "2", "0,1,0", "--printed", self.write("lines", text))
+            self.assertEqual((status, said), wanted)
+
+    def test_forms_with_a_number(self):
+        """Beside a number the forms are a series too: as many as there are forms, with no item in two of them, of the plan."""
+        at_most = ("--at-most", "15")
+        self.assertEqual(self.said([POOL], [(BOUND, 0)], *SERIES, *at_most), "AtMost 15")
+        for forms in (("1,5", "1,5"), ("1,5",), ("1,5", "2,3", "0,4"), ("1,5", "2"), ("1,5", "2,300")):
+            words = [word for form in forms for word in ("--form", form)]
+            self.assertEqual(self.said([POOL], [(BOUND, 0)], *words, *at_most), "Bad 0", forms)
+
+    def test_words(self):
+        """Numbers, sets and trees of the command line have one spelling."""
+        tree = write_tree([POOL], [(BOUND, 0)]).hex()
+        for words in (("02", "0,1,0", tree), ("2", "0,01,0", tree), ("2", "0,1001,0", tree), ("2", "0, 1,0", tree),
+                      ("2", "0,1,0", tree.upper()), ("2", "0,1,0", tree + " "), ("2", "0,1,0", tree, "--at-most", "+15"),
+                      ("2", "0,1,0", tree, "--spent", "1_5"), ("2", "0,1,0", tree, "--form", "1,1", "--form", "2,3"),
+                      ("2", "0,1,0", tree, "--form", "5,1", "--form", "2,3"), ("2", "0,1,0", tree, "--form", "1-1", "--form", "2,3")):
+            status, said, errors = self.tool("check_series", "bank", "two", *words)
+            self.assertEqual((status, said), (1, ""), words)
+            self.assertTrue(errors, words)
+
     def test_trials(self):
         """Random problems: no verdict that all series contradict."""
         self.assertEqual(self.tool("check_series", "--trials", "25", "3")[0], 0)

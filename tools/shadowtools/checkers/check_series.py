@@ -13,7 +13,8 @@ place of `Optimal`; a tree that can't be read as `Short`, `BadVector AT`, `BadKi
   --at-most U      the tree is to show that no series has a value above U
   --spent BUDGET   also prints whether the tree spends this node budget, as `spent true` or `spent false`
   --brute          also compares with all series, where at most 20,000 sets of items are forms of the plan
-  --printed FILE   judges each line that `shadowd series` printed, and prints `agreed` or what does not agree
+  --printed FILE   judges each line that `shadowd series` printed, and prints `agreed` or what does not agree; a line
+                   that the format page does not have is refused
 
 --trials makes N small problems at random, searches each, damages some of the trees, and compares each verdict that
 claims something with all series; it prints how many of each verdict it saw.
@@ -25,6 +26,7 @@ file is refused, 2 for a faulty command line.
 import itertools
 import math
 import random
+import re
 import sys
 from collections import namedtuple
 
@@ -44,7 +46,9 @@ def alone(P):
 
 
 def is_series(P, forms):
-    if len(forms) != P.count or any(not check_tree.is_form(alone(P), X) for X in forms):
+    if len(forms) != P.count or any(max(X, default=0) >= len(P.bank.items) for X in forms):
+        return False
+    if any(not check_tree.is_form(alone(P), X) for X in forms):
         return False
     return all(not X & Y for X, Y in itertools.combinations(forms, 2))
 
@@ -401,7 +405,7 @@ class Judge:
 
 def verdict(P, forms, vectors, nodes, at_most=None):
     """The verdict on a tree, with the forms of a series, a number that no series exceeds, or neither."""
-    if at_most is None and forms is not None and not is_series(P, forms):
+    if forms is not None and not is_series(P, forms):
         return "Bad 0"
     best = at_most if at_most is not None else None if forms is None else value(P, forms)
     judge, waiting, open_leaves = Judge(P, vectors, best), [root(P)], 0
@@ -471,6 +475,30 @@ def contradicts(P, forms, said):
 
 # ---------------------------------------------------------------- what was printed
 
+NUMBER = "(0|[1-9][0-9]*)"
+TREE = "((?:[0-9a-f]{2})+)"
+SERIES_LINE = re.compile("series ([1-4]) value %s (proved|unproved) nodes %s" % (NUMBER, NUMBER))
+FORM_LINE = re.compile("form((?: (?:0|[1-9][0-9]*))+)")
+TREE_LINE = re.compile("tree " + TREE)
+BOUND_LINE = re.compile("at most %s tree %s" % (NUMBER, TREE))
+NONE_LINE = re.compile("no series " + TREE)
+NONE_FOUND_LINE = re.compile("no series in %s nodes %s" % (NUMBER, TREE))
+
+
+def parts(pattern, line, what):
+    """The parts of a line that is spelled so as a whole."""
+    match = pattern.fullmatch(line)
+    expect(match, what)
+    return match.groups()
+
+
+def items_of(line):
+    """The items of a form's line, which ascend strictly."""
+    items = [int(word) for word in parts(FORM_LINE, line, "the forms")[0].split()]
+    expect(all(one < other for one, other in zip(items, items[1:])), "the order of the forms")
+    return items
+
+
 def judged(P, forms, text, at_most=None):
     """The verdict on a tree in hexadecimal, and the tree."""
     data = bytes.fromhex(text)
@@ -486,39 +514,40 @@ def expect(condition, what):
 
 def printed_series(P, lines, budget):
     """Tests the lines of a series: the first line, a line for each form, the tree, and perhaps the bound."""
-    head = lines[0].split(" ")
-    expect(head[:2] == ["series", str(P.count)] and head[2] == "value" and head[5] == "nodes", "the first line")
-    forms = [[int(i) for i in line.split(" ")[1:]] for line in lines[1:P.count + 1]]
-    expect(all(line.startswith("form ") for line in lines[1:P.count + 1]), "the forms")
-    expect(all(X == sorted(X) for X in forms) and forms == sorted(forms), "the order of the forms")
+    count, best, mark, number = parts(SERIES_LINE, lines[0], "the first line")
+    expect(int(count) == P.count, "the number of forms")
+    expect(len(lines) in (P.count + 2, P.count + 3), "the number of lines")
+    forms = [items_of(line) for line in lines[1:P.count + 1]]
+    expect(forms == sorted(forms), "the order of the forms")
     forms = [frozenset(X) for X in forms]
-    expect(is_series(P, forms) and value(P, forms) == int(head[3]), "the value")
-    expect(lines[P.count + 1].startswith("tree "), "the tree")
-    said, (vectors, nodes) = judged(P, forms, lines[P.count + 1][5:])
-    expect(len(nodes) == int(head[6]), "the number of nodes")
-    if head[4] == "proved":
+    expect(is_series(P, forms) and value(P, forms) == int(best), "the value")
+    said, (vectors, nodes) = judged(P, forms, *parts(TREE_LINE, lines[P.count + 1], "the tree"))
+    expect(len(nodes) == int(number), "the number of nodes")
+    if mark == "proved":
         expect(said == "Optimal" and len(lines) == P.count + 2, "the tree of a proved series")
         return
-    expect(head[4] == "unproved" and said.startswith("Partial"), "the tree of an unproved series")
+    expect(said.startswith("Partial"), "the tree of an unproved series")
     expect(spent(P, forms, vectors, nodes, budget), "the budget")
     for line in lines[P.count + 2:]:
-        words = line.split(" ")
-        expect(words[:2] == ["at", "most"] and words[3] == "tree" and len(words) == 5, "the bound")
-        expect(judged(P, None, words[4], int(words[2]))[0] == "AtMost " + words[2], "the tree of the bound")
+        most, tree = parts(BOUND_LINE, line, "the bound")
+        expect(judged(P, forms, tree, int(most))[0] == "AtMost " + most, "the tree of the bound")
 
 
 def printed(P, text, budget):
     """Tests what `shadowd series` printed, at status 0, 17 or 18."""
-    lines = text.splitlines()
-    if lines[0].startswith("no series in "):
-        words = lines[0].split(" ")
-        said, (vectors, nodes) = judged(P, None, words[5])
-        expect(words[3] == str(budget) and said.startswith("Partial"), "the tree of no series in so many nodes")
-        expect(spent(P, None, vectors, nodes, budget), "the budget")
-    elif lines[0].startswith("no series "):
-        expect(judged(P, None, lines[0].split(" ")[2])[0] == "NoSeries", "the tree of no series")
-    else:
+    expect(text.endswith("\n"), "the end of the last line")
+    lines = text[:-1].split("\n")
+    if not lines[0].startswith("no series "):
         printed_series(P, lines, budget)
+        return
+    expect(len(lines) == 1, "the number of lines")
+    if lines[0].startswith("no series in "):
+        number, tree = parts(NONE_FOUND_LINE, lines[0], "the first line")
+        said, (vectors, nodes) = judged(P, None, tree)
+        expect(int(number) == budget and said.startswith("Partial"), "the tree of no series in so many nodes")
+        expect(spent(P, None, vectors, nodes, budget), "the budget")
+    else:
+        expect(judged(P, None, *parts(NONE_LINE, lines[0], "the first line"))[0] == "NoSeries", "the tree of no series")
 
 
 # ---------------------------------------------------------------- trials
@@ -655,14 +684,42 @@ def base_budget(path):
         return next((int(line.split(" ")[1]) for line in file if line.startswith("base-budget ")), 4095)
 
 
+def number_of(word, what):
+    """A whole number in decimal digits without a leading zero."""
+    if not re.fullmatch(NUMBER, word):
+        raise Refused("%s %s: a whole number" % (what, word))
+    return int(word)
+
+
 def numbers_of(word, count, bank):
     """The weights of a word, and the number of forms."""
-    parts = word.split(",")
-    if not all(part.isascii() and part.isdigit() for part in parts) or len(parts) != bank.grid or not any(map(int, parts)):
-        raise Refused("weights %s: %d whole numbers parted by commas, one above 0" % (word, bank.grid))
+    words = word.split(",")
+    if not all(re.fullmatch(NUMBER, part) for part in words) or len(words) != bank.grid or not 0 < max(map(int, words)) <= 1000:
+        raise Refused("weights %s: %d whole numbers from 0 to 1000 parted by commas, one above 0" % (word, bank.grid))
     if count not in ("1", "2", "3", "4"):
         raise Refused("%s forms: 1 to 4" % count)
-    return [int(part) for part in parts], int(count)
+    return [int(part) for part in words], int(count)
+
+
+def set_of(word):
+    """The items of a SET whose words are parted by commas: they ascend strictly, and none is named twice."""
+    least = 0
+    for part in word.split(","):
+        match = re.fullmatch(NUMBER + "(?:-%s)?" % NUMBER, part)
+        low, high = (int(match[1]), int(match[2] or match[1])) if match else (1, 0)
+        if not least <= low <= high <= 511 or match[2] and low == high:
+            raise Refused("--form %s: no set of items" % word)
+        least = high + 1
+    return check_tree.read_set(word.split(","))
+
+
+def text_in(path):
+    """The text of a file, byte by byte: no line end is turned into another."""
+    try:
+        with open(path, encoding="latin-1", newline="") as file:
+            return file.read()
+    except OSError as error:
+        raise Refused("%s: %s" % (error.filename, error.strerror))
 
 
 def compare(P, forms, said):
@@ -690,11 +747,7 @@ def main(words):
     bank = check_tree.read_bank(plain[0])
     P = Problem(bank, check_tree.read_plan(plain[1], bank), *numbers_of(plain[3], plain[2], bank))
     if "--printed" in options:
-        try:
-            with open(options["--printed"][0], encoding="ascii") as file:
-                text = file.read()
-        except OSError as error:
-            raise Refused("%s: %s" % (error.filename, error.strerror))
+        text = text_in(options["--printed"][0])
         try:
             printed(P, text, base_budget(plain[1]))
         except (ValueError, IndexError, Fault) as fault:
@@ -702,17 +755,20 @@ def main(words):
             return 1
         print("agreed")
         return 0
-    forms = [check_tree.read_set(word.split(",")) for word in options.get("--form", [])] or None
+    forms = [set_of(word) for word in options.get("--form", [])] or None
+    if not re.fullmatch("(?:[0-9a-f]{2})*", plain[4]):
+        raise Refused("the tree: pairs of lower-case hexadecimal digits")
     try:
         vectors, nodes, _ = read_tree(bytes.fromhex(plain[4]))
     except Fault as fault:
         print(fault)
         return 0
-    at_most = int(options["--at-most"][0]) if "--at-most" in options else None
+    at_most = number_of(options["--at-most"][0], "--at-most") if "--at-most" in options else None
+    budget = number_of(options["--spent"][0], "--spent") if "--spent" in options else None
     said = verdict(P, forms, vectors, nodes, at_most)
     print(said)
-    if "--spent" in options:
-        print("spent", "true" if spent(P, forms, vectors, nodes, int(options["--spent"][0])) else "false")
+    if budget is not None:
+        print("spent", "true" if spent(P, forms, vectors, nodes, budget) else "false")
     return compare(P, forms, said) if "--brute" in options else 0
 
 
