@@ -12,7 +12,9 @@ unit of the value: GLPK (`glpsol`), CBC (`cbc`) and SYMPHONY (`symphony`) on a f
 library made by gcc), so that it has N seconds on a busy machine, too. A peer's seconds have the reading of its file. Where ours took
 more than 1.1 times as many by the clock, these follow in brackets.
 
-With --plain series_bench makes trees of the kinds alone that the proved checker takes, as shadowd does.
+With --plain series_bench makes trees without the rule of the pool and without branches on use: each vector is judged form by form.
+The trees of shadowd have both. Without --plain series_bench has thresholds too, some of which it cuts to 32 bits, and
+check_series.py refuses such a tree.
 
 FILE keeps what peers found, by the digest of the model. With --peers they alone run, and with --alone
 none of them, so that both need not run at the same time.
