@@ -1,22 +1,24 @@
 """Why a plan has no form, or no series of forms; and how far from the best an unproved form can be.
 
-usage: explain.py BANK PLAN [--series K] [--map MAP [--unbound]] [--program SHADOWD]      default $SHADOWD, else crates/shadowd/out/shadowd
+usage: explain.py BANK PLAN [--series K] [--map MAP [--unbound]] [--program SHADOWD]
+       the program is by default $SHADOWD, else crates/shadowd/out/shadowd
 
 It runs `shadowd assemble`. Where no set of items meets the plan (status 11), it leaves out one rule after the
 other for as long as there is still no form. The lines of a row of the agency's table, which have one remark (as those of each passage),
-are one rule; of one that stays it then leaves out the passages that are not needed. The rules that stay cannot be met together, and without any one of them
-there is a form, or none was found within the base budget. Each step is a proved `no form`. Where a count shows it, a
-sentence has how far the rules are from a form ("the low bounds add up to 21, the length is 20").
+are one rule; of one that stays it then leaves out the passages that are not needed. The rules that stay cannot be met together, and
+without any one of them there is a form, or none was found within the base budget. Each step is a proved `no form`. Where a count
+shows it, a sentence has how far the rules are from a form ("the low bounds add up to 21, the length is 20").
 Where a form is unproved, it reads the proof tree. Each open leaf has a bound; the greatest of them bounds all forms.
 The gap is what the best form can inform more than this one.
 
 With --series it does the first for K forms without common items (status 17 of `shadowd series`): it begins with the rules that the
-rays and counts of the series tree name. Each step is a proved `no series`, but where the bank has too few items for K forms. The weights and the information play no part, so it asks
-with a bank whose items inform alike.
+rays and counts of the series tree name. Each step is a proved `no series`, but where the bank has too few items for K forms. The
+weights and the information play no part, so it asks with a bank whose items inform alike.
 
-Rules are named by the remark above them in the plan, as irt_bank.py writes it. With --map the gap is in units of
-information; the map has to be that of bank and plan. With --unbound the plan need not name it by its SHA-256. Exit status: 0 where there is a form or a series, 11 where there is no form, 12 where none was found, 17 where there is
-no series, 18 where none was found, 1 where the files are refused.
+Rules are named by the remark above them in the plan, as irt_bank.py writes it. With --map the gap is in units of information; the map
+has to be that of bank and plan. With --unbound the plan need not name it by its SHA-256. Exit status: 0 where there is a form or a
+series, 11 where there is no form, 12 where none was found, 17 where there is no series, 18 where none was found, 1 where the files
+are refused.
 """
 import argparse
 import sys

@@ -11,7 +11,8 @@ usage: simulate.py PREFIX --out OUT [options]      PREFIX.bank.csv, PREFIX.plan.
                     each band: the ability that halves the prior within it
   --watch P P ..    counts the rates in the bands that begin at these points of the grid, in the place of the plan's
   --tails T T ..    abilities at which more examinees are taken through after the others; default 3, 2.5 and 2 standard deviations
-                    of the prior to each side of its mean (-3 -2.5 -2 2 2.5 3), none where --true names points. They show the ends of the scale, and count in no total. `--tails none`
+                    of the prior to each side of its mean (-3 -2.5 -2 2 2.5 3), none where --true names points. They show the ends of
+                    the scale, and count in no total. `--tails none`
   --each N          how many at each of them; default 1 for each 40 examinees
   --retakers SHARE  a share of the examinees, from 0 to 1, that sit twice; default 0. Each second sitting is begun without the items
                     of the first, after all first sittings. Its answers are drawn anew: nobody remembers an item, or has learnt

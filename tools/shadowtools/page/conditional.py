@@ -35,5 +35,6 @@ def table(study: Study) -> Table:
             of_items = [f"{rates.max():.3f}", study.names[rates.argmax()], f"{above}", f"{(rates == 0).sum()}", f"{(eligible == 0).sum()}"]
         rows.append([f"{band}", name, f"{counts.visited:,}", f"{counts.visited / study.counts.total.visited:.1%}", *of_items,
                      f"{counts.aside:,}", steps])
-    return Table(["Band", f"Estimates ({study.unit})", *HEAD], rows, f"Rates in each band, of {len(study.items)} items; the rate of the plan is {study.rate:.3f} of the {'visits of its bands' if study.is_per_visit else 'tests'}",
-                 texts=2, marked=frozenset(marked))
+    rate = f"{study.rate:.3f} of the {'visits of its bands' if study.is_per_visit else 'tests'}"
+    return Table(["Band", f"Estimates ({study.unit})", *HEAD], rows,
+                 f"Rates in each band, of {len(study.items)} items; the rate of the plan is {rate}", texts=2, marked=frozenset(marked))

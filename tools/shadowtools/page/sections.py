@@ -202,8 +202,9 @@ def table_of_cuts(study: Study) -> Table:
         agreement, kappa = consistency(chances)
         rows.append([name, f"{(true == found).mean():.1%}", f"{(found > true).mean():.1%}", f"{(found < true).mean():.1%}",
                      f"{accuracy(chances, true):.1%}", f"{agreement:.1%}", fixed(kappa)])
-    return Table([f"Cut score ({study.unit if is_of_ability(study) else words_of(study.scorer.asked.scale)})", "In the true level", "Above it", "Below it", "Accuracy by formula",
-                  "Consistency by formula", "Kappa"], rows)
+    scale = study.unit if is_of_ability(study) else words_of(study.scorer.asked.scale)
+    return Table([f"Cut score ({scale})", "In the true level", "Above it", "Below it", "Accuracy by formula", "Consistency by formula",
+                  "Kappa"], rows)
 
 
 def table_of_levels(study: Study) -> Table:
