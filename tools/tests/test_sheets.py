@@ -3,11 +3,14 @@ import csv
 import io
 import json
 import os
+import statistics
 import unittest
 from html.parser import HTMLParser
 
 import data_of_bank_a as a
 from common import Folder, needs_page
+from shadowtools.agency import sheets
+from shadowtools.agency.scoring import Scale
 
 
 class Read(HTMLParser):
@@ -73,6 +76,17 @@ class Sheets(Folder):
         self.assertIn("Scores are reported from 400.0 to 600.0.", said)
         self.assertEqual([cell for tag, cell in found.rows if tag == "td"], ["below 480", "480 and above, below 499.99", "499.99 and above"])
         self.assertIn("&lt;above&gt;", text)
+
+    def test_the_interval_by_hand(self):
+        """500 with a standard error of 50 is 402 to 598; at 880 it ends at the highest score. 95 in 100 of a normal distribution are in it."""
+        scale = Scale(500, 100, 100, 900, [450], ["a", "b"], 0)
+        row = {"booking": "1", "scale": "500", "scale_se": "50", "remark": "", "state": "complete", "level": "b", "level_error": "0.004"}
+        self.assertEqual(sheets.sheet_of(row, scale).interval, "402 to 598")
+        self.assertEqual(sheets.sheet_of(dict(row, scale="880"), scale).interval, "782 to 900")
+        self.assertIn("below 1 in 100", sheets.sheet_of(row, scale).of_level[0])
+        self.assertIn("The test was closed before its end.", sheets.sheet_of(dict(row, state="closed"), scale).meaning)
+        normal = statistics.NormalDist(500, 50)
+        self.assertAlmostEqual(normal.cdf(598) - normal.cdf(402), 0.95, 3)
 
     def test_a_test_without_a_score(self):
         self.sheets()
