@@ -119,7 +119,8 @@ class Guide(Folder):
         with open(os.path.join(ROOT, "docs", "GUIDE.md"), encoding="utf-8") as file:
             blocks = re.findall(r"^```\n((?:python3|mkdir) .*?)^```$", file.read(), re.M | re.S)
         script = re.sub(r"--examinees \d+", "--examinees 30", "".join(blocks).replace("/tmp/exam", self.folder))
-        self.assertEqual([script.count(f"tools/{tool}.py") for tool in ("irt_bank", "explain", "simulate", "report", "score")], [2, 1, 3, 3, 1])
+        self.assertEqual([script.count(f"tools/{tool}.py") for tool in ("irt_bank", "explain", "simulate", "report", "score", "shadow")],
+                         [3, 1, 3, 6, 1, 3])
         done = subprocess.run(["bash", "-e", "-c", script.replace("python3 ", sys.executable + " ")], cwd=ROOT, capture_output=True,
                               text=True, env=dict(os.environ, SHADOWD=os.path.abspath(PROGRAM)))
         self.assertEqual(done.returncode, 0, done.stderr)
@@ -130,6 +131,11 @@ class Guide(Folder):
         self.assertIn("two sittings of a person: overlap 0.000, at most 0.000; ", done.stdout)
         self.assertEqual(re.findall(r"(?m)^(band \d, .*): visits", done.stdout),
                          ["band 0, -4 to -1", "band 1, -0.8 to -0.4", "band 2, -0.2 to 0.2", "band 3, 0.4 to 0.8", "band 4, 1 to 4"])
+        self.assertIn("prices.html: 14 rules, 51 items to write", done.stdout)
+        self.assertIn("a trial with fewer than 1000 examinees at each ability: --rate ", done.stdout)
+        self.assertIn("window.html: 30 sessions, 30 complete, 0 broken rules, audits agree", done.stdout)
+        self.assertIn("appeal.html: session 17, booking 17, score ", done.stdout)
+        self.assertEqual(len(re.findall(r"(?m)^(?:files|documents|audit|seals|results|report): holds", done.stdout)), 6)
         with open(self.path("results.csv")) as one, open(self.path("report.sessions.csv")) as other:
             scored, reported = list(csv.DictReader(one)), [row for row in csv.DictReader(other) if row["part"] == "sample"]
         self.assertEqual([row["mode"] for row in scored], [row["mode"] for row in reported])
