@@ -107,6 +107,7 @@ class Windows(WindowFolder):
         value = 1 - statistics.fmean(float(row["se"]) ** 2 for row in inside) / spread
         self.assertIn(f"of these {len(inside)} scores has no reliability" if value < 0 else f"is {value:.3f} in this window", text)
         self.assertIn(f"{ends} score{'s' if ends > 1 else ''} at an end of the scale", text)
+        self.assertIn("The consistency rests on the plan's prior", text)
 
     def test_exposure_overlap_and_closed_tests(self):
         text = self.report()

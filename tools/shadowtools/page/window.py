@@ -177,7 +177,13 @@ def decisions(found: Findings) -> Iterator[Verdict]:
     if found.agreement:
         text += f", and {percent(found.agreement.share)} the same in a second sitting (consistency; kappa {fixed(found.agreement.kappa, 2)})"
     unsure = int((window.wrong > UNSURE).sum())
-    yield Verdict(MEASURED, f"{text}. {unsure:,} {'has' if unsure == 1 else 'have'} an error above {UNSURE:.0%}. Both rest on the plan's prior.")
+    yield Verdict(MEASURED, f"{text}. {unsure:,} {'has' if unsure == 1 else 'have'} an error above {UNSURE:.0%}. "
+                            f"{rests_on_prior(window)} on the plan's prior.")
+
+
+def rests_on_prior(window: Window) -> str:
+    """Which of accuracy and consistency take the plan's prior for true: the error of a likelihood estimate's level does not."""
+    return "Both rest" if window.scorer.asked.estimate in ("eap", "mode") else "The consistency rests"
 
 
 def exposure(window: Window) -> Iterator[Verdict]:
@@ -380,7 +386,7 @@ def of_decisions(found: Findings) -> List[Section]:
         rows.append([name, f"{len(wrong):,}", percent(1 - wrong.mean()) if len(wrong) else "–", f"{int((wrong > UNSURE).sum()):,}"])
     said = (f"Accuracy is the mean over the examinees of the probability that the true level is that of the score. Consistency: each examinee "
             f"sits again in a simulation, with the same items, at an ability drawn from the posterior (seed {found.seed}), and is scored the same "
-            f"way. Both take the plan's prior for the distribution of ability, and the item parameters for true.")
+            f"way. {rests_on_prior(window)} on the plan's prior for the distribution of ability, and both on the item parameters.")
     return [Section("decisions", "Decisions", [
         Table(["Level", "Examinees", "Expected to be right", f"Error above {UNSURE:.0%}"], rows), Note(said)])]
 
