@@ -48,7 +48,8 @@ class Examination:
 
     def score(self, steps):
         """The mean of the posterior (EAP) of the answers, and its standard deviation: those of tools/score.py."""
-        sums = posterior_sums(self.documents.bank, self.documents.plan.prior, [one.item for one in steps], [one.response for one in steps])
+        items, responses = [one.item for one in steps], [one.response for one in steps]
+        sums = posterior_sums(self.documents.bank, self.documents.plan.prior, items, responses)
         return moments(sums, self.documents.map["theta"], self.documents.map["log_unit"])
 
 
@@ -63,7 +64,8 @@ class Adapter:
 
     def players_only(self):
         word, _, given = request.headers.get("Authorization", "").partition(" ")
-        if request.endpoint != "description" and not (word.lower() == "bearer" and hmac.compare_digest(given.strip().encode(), self.token)):
+        is_player = word.lower() == "bearer" and hmac.compare_digest(given.strip().encode(), self.token)
+        if request.endpoint != "description" and not is_player:
             return failure(401, "the message has no token of a player, as Authorization: Bearer TOKEN")
         return None
 
@@ -89,7 +91,8 @@ class Adapter:
 
     def section(self, section):
         name, configuration = self.known_section(section)
-        return {MEMBERS.items: {MEMBERS.item_identifiers: self.examinations[name].names}, MEMBERS.section_configuration: configuration}
+        items = {MEMBERS.item_identifiers: self.examinations[name].names}
+        return {MEMBERS.items: items, MEMBERS.section_configuration: configuration}
 
     def delete_section(self, section):
         self.known_section(section)
@@ -150,9 +153,9 @@ class Adapter:
     def place(self, sitting, step):
         """The reply that has the item of a step, or the end of the test."""
         examination, steps = self.examinations[sitting.examination], self.records.steps(sitting.id)
-        following = [one for one in steps if one.step == step]
-        reply = {MEMBERS.session_state: written_state(self.key, sitting, step),
-                 MEMBERS.next_items: {MEMBERS.item_identifiers: [examination.names[one.item] for one in following], MEMBERS.stage_length: len(following)}}
+        following = [examination.names[one.item] for one in steps if one.step == step]
+        items = {MEMBERS.item_identifiers: following, MEMBERS.stage_length: len(following)}
+        reply = {MEMBERS.session_state: written_state(self.key, sitting, step), MEMBERS.next_items: items}
         if not following:
             answered = [one for one in steps if one.response is not None]
             reply[MEMBERS.assessment_result] = self.outcome(examination, sitting, answered)

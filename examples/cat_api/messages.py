@@ -23,7 +23,8 @@ def members_of(data, taken, ignored):
     taken = [name for name in taken if name not in ignored]
     unsupported = sorted(set(found) - set(taken) - ignored)
     if unsupported:
-        raise BadMessage(f"unsupported: {', '.join(unsupported)}. It has no counterpart here; the setting `ignored` may name it, so that it is passed over")
+        raise BadMessage(f"unsupported: {', '.join(unsupported)}. It has no counterpart here; the setting `ignored` may name "
+                         "it, so that it is passed over")
     return {name: found[name] for name in taken if name in found}, set(found) & ignored
 
 
@@ -51,7 +52,8 @@ def withheld_of(prior_data, numbers):
 
 def without_of(entry):
     if set(entry) != {MEMBERS.label, MEMBERS.value} or entry[MEMBERS.label] != WORDS.without:
-        raise BadMessage(f"unsupported: {MEMBERS.prior_data} with the label {entry.get(MEMBERS.label)!r}; only {WORDS.without!r} has a counterpart")
+        raise BadMessage(f"unsupported: {MEMBERS.prior_data} with the label {entry.get(MEMBERS.label)!r}; "
+                         f"only {WORDS.without!r} has a counterpart")
     value = entry[MEMBERS.value].split() if isinstance(entry[MEMBERS.value], str) else entry[MEMBERS.value]
     if not isinstance(value, list) or not all(isinstance(one, str) for one in value):
         raise BadMessage(f"{WORDS.without} is no list of IDs")
@@ -68,9 +70,11 @@ def result_of(assessment_result, examination, item):
     result, name = results[0], examination.names[item]
     if result.get(MEMBERS.identifier) != name:
         raise BadMessage(f"the result is not of the item {name}, which was given")
-    found = {one for one in (response_of(result, examination, item), score_of(result, examination, item)) if one is not None}
+    found = {response_of(result, examination, item), score_of(result, examination, item)} - {None}
+    if not found:
+        raise BadMessage(f"the result of {name} has neither a response nor a score")
     if len(found) != 1:
-        raise BadMessage(f"the result of {name} has {'neither a response nor a score' if not found else 'a score that is not that of its response'}")
+        raise BadMessage(f"the result of {name} has a score that is not that of its response")
     return found.pop()
 
 

@@ -9,15 +9,18 @@ from typing import NamedTuple
 
 TABLES = """
 PRAGMA journal_mode = WAL;
-CREATE TABLE IF NOT EXISTS sections (id TEXT PRIMARY KEY, examination TEXT NOT NULL, configuration TEXT NOT NULL, deleted INTEGER NOT NULL DEFAULT 0);
-CREATE TABLE IF NOT EXISTS sessions (id TEXT PRIMARY KEY, section TEXT NOT NULL, examination TEXT NOT NULL, booking INTEGER NOT NULL,
-    without TEXT NOT NULL, session INTEGER, state TEXT NOT NULL DEFAULT 'waiting', deleted INTEGER NOT NULL DEFAULT 0, UNIQUE (examination, booking));
+CREATE TABLE IF NOT EXISTS sections (id TEXT PRIMARY KEY, examination TEXT NOT NULL, configuration TEXT NOT NULL,
+    deleted INTEGER NOT NULL DEFAULT 0);
+CREATE TABLE IF NOT EXISTS sessions (id TEXT PRIMARY KEY, section TEXT NOT NULL, examination TEXT NOT NULL,
+    booking INTEGER NOT NULL, without TEXT NOT NULL, session INTEGER, state TEXT NOT NULL DEFAULT 'waiting',
+    deleted INTEGER NOT NULL DEFAULT 0, UNIQUE (examination, booking));
 CREATE TABLE IF NOT EXISTS steps (id TEXT, step INTEGER, item INTEGER NOT NULL, response INTEGER, PRIMARY KEY (id, step));
 """
 
 
 class Sitting(NamedTuple):
-    """A session of a player: its section, its booking and list at shadowd, the number that it has there, and `waiting`, `complete` or `closed`."""
+    """A session of a player: its section, its booking and list at shadowd, the number that it has there, and its state, which is
+    `waiting`, `complete` or `closed`."""
     id: str
     section: str
     examination: str

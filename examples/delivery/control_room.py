@@ -151,14 +151,15 @@ class ControlRoom:
     # ---------------------------------------------------------------- pages
 
     def bookings(self):
-        choice = Choice(**{name: request.args[name] for name in ("state", "text", "order") if name in request.args},
-                        down="down" in request.args, page=request.args.get("page", 1, type=int))
-        if choice.order not in ORDERS or choice.state not in ("", *STATES) or not re.fullmatch(r"[0-9]{0,20}", choice.text) or not 0 < choice.page < 10**6:
+        choice = choice_of(request.args)
+        if choice is None:
             abort(404)
         lines, counts = self.roll.lines(choice)
         chosen = counts.get(choice.state, 0) if choice.state else sum(counts.values())
-        return render_template("staff/bookings.html", lines=lines, counts=counts, choice=choice, states=STATES, chosen=chosen, first=(choice.page - 1) * LINES,
-                               pages=max(1, -(-chosen // LINES)), quiet=QUIET, renew=request.args.get("renew") != "no", link=link_of(choice))
+        return render_template(
+            "staff/bookings.html", lines=lines, counts=counts, choice=choice, states=STATES, chosen=chosen,
+            first=(choice.page - 1) * LINES, pages=pages_of(chosen), quiet=QUIET, link=link_of(choice),
+            renew=request.args.get("renew") != "no")
 
     def find(self):
         """The page of the booking whose number was typed in."""
@@ -185,7 +186,9 @@ class ControlRoom:
             return redirect(url_for("booking", booking=booking), 303)
         fault = self.fault_of_form(booking, what) if request.method == "POST" else None
         if request.method == "GET" or fault:
-            return render_template("staff/act.html", booking=booking, line=line, what=what, name=name, fault=fault, most=MOST_MINUTES), 400 if fault else 200
+            page = render_template("staff/act.html", booking=booking, line=line, what=what, name=name, fault=fault,
+                                   most=MOST_MINUTES)
+            return page, 400 if fault else 200
         return self.acted(booking, what)
 
     @staticmethod
@@ -224,7 +227,8 @@ class ControlRoom:
         try:
             place = self.sittings.close(booking, "staff")
         except (Away, Refused) as fault:
-            return f"The end of booking {booking} is decided, and no item is shown any more. The server did not close the session yet ({fault}); the application tries again by itself."
+            return (f"The end of booking {booking} is decided, and no item is shown any more. The server did not close "
+                    f"the session yet ({fault}); the application tries again by itself.")
         return f"The session of booking {booking} is {place.state}. Its answers are recorded."
 
     def log(self):
@@ -232,7 +236,7 @@ class ControlRoom:
         if not 0 < page < 10**6:
             abort(404)
         rows, count = self.roll.actions(page)
-        return render_template("staff/log.html", rows=rows, count=count, page=page, pages=max(1, -(-count // LINES)))
+        return render_template("staff/log.html", rows=rows, count=count, page=page, pages=pages_of(count))
 
     def examination(self):
         return render_template("staff/examination.html", renew=request.args.get("renew") != "no", **(self.of_server.figures or {}),
@@ -261,6 +265,19 @@ def minutes_of(text):
     """The minutes of extra time that a text has, None if it is none."""
     found = re.fullmatch(r"\s*(-?[0-9]{1,3})\s*", text)
     return int(found.group(1)) if found and 0 < abs(int(found.group(1))) <= MOST_MINUTES else None
+
+
+def choice_of(args):
+    """The choice that the address of the roll has, None if it is none."""
+    texts = {name: args[name] for name in ("state", "text", "order") if name in args}
+    choice = Choice(**texts, down="down" in args, page=args.get("page", 1, type=int))
+    is_one = choice.order in ORDERS and choice.state in ("", *STATES) and re.fullmatch(r"[0-9]{0,20}", choice.text)
+    return choice if is_one and 0 < choice.page < 10**6 else None
+
+
+def pages_of(count):
+    """The number of pages of so many lines."""
+    return max(1, -(-count // LINES))
 
 
 def link_of(choice):

@@ -348,12 +348,25 @@ class Looks(InBrowser):
         return driver.execute_script("const s = getComputedStyle(document.activeElement); return [document.activeElement.tagName, s.outlineStyle, parseFloat(s.outlineWidth)]")
 
     def test_each_page(self):
-        from selenium.webdriver.common.keys import Keys
         driver = self.browser()
         first = driver.current_window_handle
         driver.switch_to.new_window("tab")
         drawn, second = self.drawn(driver), driver.current_window_handle
         driver.switch_to.window(first)
+        self.first_pages(driver)
+        self.item_pages(driver)
+        self.last_pages(driver)
+        driver.switch_to.window(second)
+        wait_until(lambda: drawn not in driver.page_source and "Of 1 finished sessions" in driver.page_source, "the control room renews itself")
+        driver.get(self.control + "examination?renew=no")
+        self.look(driver, "the examination")
+        driver.find_element("css selector", "summary").click()
+        self.look(driver, "the examination with its table")
+        self.staff_pages(driver)
+
+    def first_pages(self, driver):
+        """From the sign-in to the first item."""
+        from selenium.webdriver.common.keys import Keys
         driver.get(self.base)
         self.assertIn(("textbox", "Code"), self.look(driver, "sign in"))
         driver.find_element("id", "code").send_keys("WRONG\n")
@@ -368,6 +381,10 @@ class Looks(InBrowser):
         self.assertEqual(self.focused(driver), ["BUTTON", "solid", 3])
         driver.find_element("css selector", "button").click()
         self.title(driver, "Item 1 of 9")
+
+    def item_pages(self, driver):
+        """An item as it is looked at, answered wrongly, printed and paused."""
+        from selenium.webdriver.common.keys import Keys
         named = self.look(driver, "an item")
         self.assertEqual([name for role, name in named if role == "radio"], ["No", "Perhaps", "Yes"])
         self.assertTrue(any(role in ("group", "radiogroup") and "In this situation" in name for role, name in named), named)
@@ -391,6 +408,9 @@ class Looks(InBrowser):
         self.look(driver, "a pause")
         self.desk().resume(70)
         driver.get(self.base + "test")
+
+    def last_pages(self, driver):
+        """From an answer while the server is away to the end of the test."""
         self.kill(self.server)
         self.choose(driver, 0)
         self.title(driver, "Please wait")
@@ -405,13 +425,6 @@ class Looks(InBrowser):
         self.look(driver, "the last page")
         driver.get(self.base + "nowhere")
         self.look(driver, "a fault")
-        driver.switch_to.window(second)
-        wait_until(lambda: drawn not in driver.page_source and "Of 1 finished sessions" in driver.page_source, "the control room renews itself")
-        driver.get(self.control + "examination?renew=no")
-        self.look(driver, "the examination")
-        driver.find_element("css selector", "summary").click()
-        self.look(driver, "the examination with its table")
-        self.staff_pages(driver)
 
     def staff_pages(self, driver):
         """A proctor gives extra time and a new code, on pages whose fields have names."""
