@@ -289,14 +289,15 @@ class Refusals(Converter):
             self.assertEqual((status, "lies on" in errors, "is below" in errors), (0, False, False), errors)
 
     def test_parameters_of_another_metric(self):
-        """T-scores on a grid of logits inform nothing there; on a grid of their own they are taken, and forms are tried at 30 to 70."""
+        """T-scores on a grid of logits inform nothing there; on a grid of their own they are taken, and forms are tried at
+        30 to 70, or at the point below where one lies half way between two."""
         items = {"items": HEAD + "A,2PL,0.12,45,\nB,2PL,0.1,52,\nC,2PL,0.09,61,\n"}
         self.refuses(items, "the items inform 0.000 at the abilities -2, -1, 0, 1, 2; difficulties are 45 to 61. Parameters, --grid and --prior are in "
                             "one metric: for T-scores give --grid 10 90 61 --prior 50 10", "--length", "1")
         self.write("items", items["items"])
         status, said, errors = self.tool("irt_bank", "--items", "items", "--length", "2", "--out", "o", "--grid", "10", "90", "61", "--prior", "50", "10",
                                          "--program", self.takes_all())
-        self.assertEqual((status, re.findall("ability ([-+0-9.]+): best", said)), (0, ["+30", "+40", "+50", "+60", "+70"]), errors)
+        self.assertEqual((status, re.findall("ability ([-+0-9.]+): best", said)), (0, ["+30", "+39.3333", "+50", "+59.3333", "+70"]), errors)
 
     def test_nothing_is_written_before_the_program_took_it(self):
         self.refuses({"items": TWO}, "No such file or directory", "--length", "1", "--program", "nowhere")
@@ -373,6 +374,15 @@ class WithTheProgram(Converter):
         self.assertEqual(status, 0, errors)
         self.assertIn("check: bank items 2 grid 41 quantities 0 stimuli 1\n", said)
         self.assertIn("ability +0: best form informs 0.250, standard error 2.000, proved nodes 1\n", said)
+
+    def test_a_form_is_tried_at_a_point_of_the_grid(self):
+        """Items of slope 1 and difficulty 0 inform 1 / (2 cosh(t / 2)) squared; half way between -4 and 0 the lower point is the estimate."""
+        self.write("items", TWO)
+        status, said, errors = self.tool("irt_bank", "--items", "items", "--length", "1", "--out", "o", "--program", PROGRAM, "--grid", "-4", "4", "3",
+                                         "--prior", "0", "2")
+        self.assertEqual(status, 0, errors)
+        lines = [line.split(",")[0] for line in said.splitlines() if line.startswith("ability")]
+        self.assertEqual(lines, [f"ability {t:+g}: best form informs {1 / (2 * math.cosh(t / 2)) ** 2:.3f}" for t in (-4, -4, 0, 0, 4)])
 
     def test_a_fault_is_translated(self):
         self.write("items", TWO)

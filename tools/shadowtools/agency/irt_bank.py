@@ -234,22 +234,23 @@ def require_information(words: Sequence[str], tables: Tables, length: int) -> No
 
 
 def first_forms(program: Program, tables: Tables, words: Sequence[str], plan: str) -> int:
-    """Prints by priors at five abilities what a test can inform there. The status of the first that has no form, else 0."""
+    """Prints by priors at five abilities what a test can inform at the grid point of each. The status of the first that has no form, else 0."""
     examinees = expected_by(words, tables.theta)
     for mean in abilities_tried(examinees, tables):
-        prior = "prior " + " ".join(map(str, log_prior([repr(mean), repr(examinees.deviation)], tables.theta, tables.log_unit).tolist()))
-        status, said = program.assemble(re.sub(r"(?m)^prior .*$", prior, plan))
+        values = log_prior([repr(mean), repr(examinees.deviation)], tables.theta, tables.log_unit).tolist()
+        point = tables.theta[values.index(max(values))]     # where the estimate begins: the greatest value, in a tie the lowest point
+        status, said = program.assemble(re.sub(r"(?m)^prior .*$", "prior " + " ".join(map(str, values)), plan))
         if status == NO_FORM:
             print("no form: no set of items meets the constraints (status 11)", file=sys.stderr)
             print_clash(*clash(program, plan, said.split()[-1]), plan_of(plan).length, read_bank(program.bank), sys.stderr)
             return status
         if status == NOT_FOUND:
-            print(f"ability {mean:+g}: no form found within the base budget (status 12); raise --base-budget", file=sys.stderr)
+            print(f"ability {point:+g}: no form found within the base budget (status 12); raise --base-budget", file=sys.stderr)
             return status
         if status != DONE:
             raise Refused(f"shadowd assemble, status {status}: {said[:60]}")
         form = form_of(said)
-        print(f"ability {mean:+g}: best form informs {form.objective / tables.information_unit:.3f}, "
+        print(f"ability {point:+g}: best form informs {form.objective / tables.information_unit:.3f}, "
               f"standard error {math.sqrt(tables.information_unit / max(1, form.objective)):.3f}, "
               f"{'proved' if form.is_proved else 'unproved'} nodes {form.nodes}")
     return DONE
