@@ -58,6 +58,7 @@ class Folders(WindowFolder):
         names = [line[66:] for line in self.bytes("MANIFEST").decode().splitlines()]
         self.assertEqual(names, sorted(names, key=str.encode))
         self.assertIn("Seals that are kept elsewhere", self.bytes("VERDICT").decode())
+        self.assertNotIn("key of the draws", self.bytes("VERDICT").decode())
         for name, original in (("bank.csv", "e.bank.csv"), ("journal", "j"), ("record.json", "record"), ("report.html", "page.html")):
             with open(self.path(original), "rb") as file:
                 self.assertEqual(self.bytes(name), file.read())
@@ -120,6 +121,10 @@ class Folders(WindowFolder):
         with contextlib.redirect_stderr(said):
             custody_folder.warn_of_later(self.path("plan"), self.path("j"))
         self.assertIn("the plan takes 960 sessions more", said.getvalue())
+        os.mkdir(self.path("drawn"))
+        self.write("drawn/plan.txt", self.read("plan"))
+        custody_folder.seal_off(self.path("drawn"), [])
+        self.assertIn("\nThe plan has the key of the draws: ", self.read("drawn/VERDICT"))
 
     @needs_program
     def test_by_two_programs(self):

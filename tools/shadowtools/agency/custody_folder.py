@@ -44,8 +44,8 @@ JOURNAL, RESULTS, RECORD, REPORT = "journal", "results.csv", "record.json", "rep
 NEEDED = (*DOCUMENTS, JOURNAL, RESULTS, RECORD, VERDICT)
 DEFAULT_SESSIONS = 1000     # of a plan without a line `sessions`
 WHAT_IT_SHOWS = """The folder shows that its files belong together. It does not show that the answers are those that were given: whoever
-can write the journal can write a whole history that is legal. Seals that are kept elsewhere show a change of what was sealed.
-The plan has the key of the draws: with it the draws of later sessions of the same plan can be computed."""
+can write the journal can write a whole history that is legal. Seals that are kept elsewhere show a change of what was sealed."""
+WHAT_ITS_KEY_SHOWS = "The plan has the key of the draws: with it the draws of later sessions of the same plan can be computed."
 
 
 class NotTested(Exception):
@@ -245,7 +245,8 @@ def seal_off(folder: str, made: Sequence[Outcome]) -> None:
     """Writes VERDICT and MANIFEST."""
     date = datetime.datetime.now(datetime.timezone.utc).strftime("%Y-%m-%d %H:%M UTC")
     lines = [f"made {date} by revision {revision()} of the tools", *(f"{one.name}: {one.line}" for one in made)]
-    put(folder, VERDICT, "".join(line + "\n" for line in [*lines, "", *WHAT_IT_SHOWS.splitlines()]).encode("utf-8"))
+    lines += ["", WHAT_IT_SHOWS, *([WHAT_ITS_KEY_SHOWS] if has_draws(os.path.join(folder, DOCUMENTS[1])) else [])]
+    put(folder, VERDICT, "".join(line + "\n" for line in lines).encode("utf-8"))
     manifest = [f"{hashlib.sha256(bytes_of(os.path.join(folder, name))).hexdigest()}  {name}\n" for name in names_in(folder)]
     put(folder, MANIFEST, "".join(manifest).encode("utf-8"))
     place = os.open(folder, os.O_RDONLY)
@@ -253,9 +254,15 @@ def seal_off(folder: str, made: Sequence[Outcome]) -> None:
     os.close(place)
 
 
+def has_draws(plan: str) -> bool:
+    """Whether a plan has an exposure rate, and so a key by which eligible items are drawn."""
+    part, whole = read_plan(plan).rate
+    return part < whole
+
+
 def warn_of_later(plan: str, journal: str) -> None:
     """Says on standard error where the plan has a key and takes more sessions."""
-    if read_plan(plan).rate[0] >= read_plan(plan).rate[1]:
+    if not has_draws(plan):
         return
     limit = re.search(r"(?m)^sessions (\d+)$", text_of(plan))
     left = (int(limit.group(1)) if limit else DEFAULT_SESSIONS) - len(sessions_of(read_journal(journal)))
