@@ -17,6 +17,7 @@ from test_simulate import Examination
 
 if is_there(*PAGE):
     from shadowtools.agency import price
+    from shadowtools.page import price as price_page
 
 RULES = ("CONSTRAINT,TYPE,WHAT,CONDITION,LB,UB\nlength,Number,Item,,4,4\nevens,Number,Item,K == x,1,1\nfew,Number,Item,SET == a,0,2\n"
          "foes,Enemy,Item,FOE == f,,\n")
@@ -119,6 +120,15 @@ class Intervals(unittest.TestCase):
         self.assertEqual(price.Best(4, 5).less(price.Best(3, 3.5)), price.Best(0.5, 2))
         self.assertEqual(price.Best(3, 3.25).less(price.Best(3, 3.5)), price.Best(0.0, 0.25))
         self.assertTrue(price.Best(4, 4).less(price.Best(3, 3)).is_proved)
+
+    def test_items_that_gain_as_much(self):
+        """The verdict counts them, so that nobody takes the first of the table for the only one."""
+        def last(*gains):
+            items = [price.Gain(kind, 0.0, [price.Best(gain, gain)]) for kind, gain in zip("abcd", gains)]
+            return price_page.verdicts(price.Prices([0.0], [price.Best(5, 5)], [price.Best(0, 0)], [], items, 1))[-1].text
+        self.assertTrue(last(0.2, 0.1).endswith("over these abilities."))
+        self.assertTrue(last(0.2, 0.2, 0.1).endswith("over these abilities. 1 other gains as much."))
+        self.assertTrue(last(0.2, 0.2, 0.2, 0.1).endswith("over these abilities. 2 others gain as much."))
 
     def test_rows_of_a_table(self):
         """Lines of one row of the table are one rule, as those of all passages."""

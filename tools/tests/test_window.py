@@ -147,6 +147,14 @@ class Windows(WindowFolder):
         return (len(rows), statistics.fmean(x for x, _, _ in rows), statistics.fmean(e for _, e, _ in rows),
                 sum(x - e for x, e, _ in rows) / math.sqrt(sum(e * (1 - e) for _, e, _ in rows)), along)
 
+    def test_chance_of_a_mark(self):
+        """Of a standard normal value 27 in 10,000 are above 3 or below -3 (Abramowitz and Stegun, table 26.1), and an item has two. The
+        verdict has the farthest z with two decimals, so that 2.97 does not read as 3."""
+        text = self.report()
+        every = [float(row[name] or 0) for row in self.rows("page.items.csv") if int(row["answers"]) >= 20 for name in ("z", "z_along")]
+        self.assertIn(f" {max(every, key=abs):+.2f})", text)
+        self.assertIn("Of items without a fault at most 54 in 10,000 have one of them above 3 or below -3 by chance.", text)
+
     def test_items_beside_their_parameters(self):
         text = self.report()
         mean = self.number(text, r"marginal likelihood mean ([-+\d.]+)")
@@ -247,7 +255,7 @@ class Windows(WindowFolder):
     def test_seals(self):
         status, seal, _ = self.tool("audit", "--seal", "j")
         self.write("seal", seal)
-        self.assertIn("The journal goes on from the seal seal of ", self.report("--seals", "seal"))
+        self.assertIn("The journal goes on from the seal “seal” of ", self.report("--seals", "seal"))
         self.write("seal", re.sub(r"sha256 .", lambda found: "sha256 " + ("0" if found.group()[-1] != "0" else "1"), seal))
         status, said, errors = self.tool("report", "e", "--journal", "j", "--record", "record", "--to", "page.html", "--program", "none", "--seals", "seal")
         self.assertEqual(status, 1, errors)

@@ -33,8 +33,10 @@ def verdicts(found: Prices) -> List[Verdict]:
         said.append(Verdict(MEASURED, f"The dearest single rule is “{name}”: {cell(row[dear])} {at(found.abilities)[dear]}."))
     if found.gains:
         first = found.gains[0]
+        equal = sum(f"{one.mean:.3f}" == f"{first.mean:.3f}" for one in found.gains[1:])
+        also = f" {equal} {'other gains' if equal == 1 else 'others gain'} as much." if equal else ""
         said.append(Verdict(MEASURED, f"The item to write first is of the kind “{first.kind}” with difficulty {plain(first.difficulty)}: the best form "
-                                      f"informs {first.mean:.3f} more in the mean over these abilities."))
+                                      f"informs {first.mean:.3f} more in the mean over these abilities.{also}"))
     return said
 
 

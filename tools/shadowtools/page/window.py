@@ -137,7 +137,7 @@ def seals(found: Findings) -> Iterator[Verdict]:
     if not found.seals:
         yield Verdict(MEASURED, "No seal was given (--seals), so nothing here shows when the journal had which records.")
     for path, seal, good in found.seals:
-        of = f"the seal {os.path.basename(path)} of {count(seal.records, 'record')}"
+        of = f"the seal “{os.path.basename(path)}” of {count(seal.records, 'record')}"
         yield Verdict(MET, f"The journal goes on from {of}.") if good else Verdict(NOT_MET, f"The journal does not go on from {of}.")
 
 
@@ -223,7 +223,7 @@ def item_fit(found: Findings) -> Verdict:
     if not judged:
         return Verdict(MEASURED, f"No item has {FEWEST} answers, so the fit of the items is not judged.")
     first = judged[0]
-    which = f"z {signed(first.z, 1)}" if first.farthest == first.z else f"z along ability {signed(first.along, 1)}"
+    which = f"z {signed(first.z, 2)}" if first.farthest == first.z else f"z along ability {signed(first.along, 2)}"
     return Verdict(MEASURED, f"{marked_of(judged)} of {len(judged)} items with {FEWEST} answers or more differ from their parameters by more than "
                              f"{FAR} standard errors; by chance {BY_CHANCE * len(judged):.1f} would at most. The most is {found.window.names[first.item]}: "
                              f"mean answer {first.mean:.3f}, expected {first.expected:.3f} ({which}).")
@@ -449,8 +449,8 @@ def of_items(found: Findings) -> Section:
         Table(["Item", "Answers", "Exposure, per test", "Mean answer", "Expected", "z", "z along ability"], rows, marked=marked), Note(
             "Expected is the mean over the examinees that answered the item, each by the posterior of the other answers under the abilities of this "
             f"window. z is the difference in standard errors. z along ability weights the differences by ability: below 0 where able examinees do "
-            f"worse than expected, and others better. Of items without a fault 27 in 10,000 have one of them above {FAR} or below −{FAR}. A marked item may "
-            "have drifted, have a wrong key, or have been leaked. It pulls on the others too, so look at the first of the table first.")])
+            f"worse than expected, and others better. Of items without a fault at most {BY_CHANCE * 10_000:.0f} in 10,000 have one of them above {FAR} or below −{FAR} "
+            "by chance. A marked item may have drifted, have a wrong key, or have been leaked. It pulls on the others too, so look at the first of the table first.")])
 
 
 def of_examinees(found: Findings) -> List[Section]:
