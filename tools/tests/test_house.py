@@ -52,6 +52,18 @@ class Imports(Files):
         with open(path, encoding="utf-8") as file:
             self.assertEqual(file.read(), "ghost use a.B.{Two};\n\nfn f() ensures { Two } {}\n")
 
+    def test_a_fix_takes_them_out_of_definitions_too(self):
+        path = file_of(self.folder, "G.antt", "use a.B.{One, Two}\nuse a.C.{Three}\npub use a.D.{Four}\n\nfive = Two\n")
+        imports.fix(path)
+        with open(path, encoding="utf-8") as file:
+            self.assertEqual(file.read(), "use a.B.{Two}\npub use a.D.{Four}\n\nfive = Two\n")
+
+    def test_a_fix_leaves_what_code_uses_to_its_reader(self):
+        path = file_of(self.folder, "h.rt", "use a::{One, Two};\n\nfn f(two: Two) {}\n")
+        imports.fix(path)
+        with open(path, encoding="utf-8") as file:
+            self.assertEqual(file.read(), "use a::{One, Two};\n\nfn f(two: Two) {}\n")
+
 
 class Repeats(Files):
     BODY = [f"    let value_{k} = {k};" for k in range(8)]
@@ -77,6 +89,22 @@ class Contracts(Files):
         text = "fn one()\n    ensures { a }\n    ensures { b\n        c }\n{\n    x\n}\n\nfn none() {\n}\n\nfn two()\n    requires { a }\n{}\n"
         found = [(it.name, it.lines) for it in house_sources.contracts(file_of(self.folder, "a.rt", text))]
         self.assertEqual(found, [("one", 3), ("two", 1)])
+
+
+class WideComments(Files):
+    def number(self, text):
+        path = file_of(self.folder, "a.rt", text)
+        with mock.patch.object(house, "crates", lambda: {"a": []}), mock.patch.object(house, "files", lambda crate, folder: [path] if folder == "src" else []):
+            return house.wide_comments()
+
+    def test_a_comment_of_100_columns_is_not_wide(self):
+        self.assertEqual(self.number("/// " + "x" * 96 + "\n    // " + "x" * 93 + "\n"), 0)
+
+    def test_each_line_above_is_counted(self):
+        self.assertEqual(self.number("/// " + "x" * 97 + "\nfn f() {}\n-- " + "x" * 98 + "\n    // " + "x" * 94 + "\n"), 3)
+
+    def test_code_is_left_to_the_formatter(self):
+        self.assertEqual(self.number("fn f() { " + "x" * 120 + " } // why\n"), 0)
 
 
 class Limits(unittest.TestCase):

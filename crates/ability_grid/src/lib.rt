@@ -1,6 +1,6 @@
-//! The ability estimate: running sums of the log-posterior over the ability grid, and their mode. Upward it promises that
-//! the mode is the posterior mode of the prior and the answers that were added, and that no sum wraps. Only
-//! `KeptSums::of_prior` takes memory.
+//! The ability estimate: running sums of the log-posterior over the ability grid, and their mode.
+//! Upward it promises that the mode is the posterior mode of the prior and the answers that were
+//! added, and that no sum wraps. Only `KeptSums::of_prior` takes memory.
 #![tactic(auto)]
 
 mod kept;

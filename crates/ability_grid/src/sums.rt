@@ -11,9 +11,9 @@ use std::marker::Model;
 /// The grid has at most so many points.
 pub(crate) const MOST_POINTS: usize = 61;
 
-/// The logarithm of the posterior at each point of the ability grid, up to a constant: that of the prior, plus the
-/// log-likelihood of each answer added (the posterior over a grid of abilities; Bock and Mislevy, Adaptive EAP
-/// Estimation of Ability in a Microcomputer Environment, 1982).
+/// The logarithm of the posterior at each point of the ability grid, up to a constant: that of the
+/// prior, plus the log-likelihood of each answer added (the posterior over a grid of abilities;
+/// Bock and Mislevy, Adaptive EAP Estimation of Ability in a Microcomputer Environment, 1982).
 #[derive(Clone, Copy, Debug, PartialEq, Eq)]
 pub struct Sums {
     pub(crate) grid: u8,
@@ -74,7 +74,8 @@ impl Sums {
         self.additions += 1;
     }
 
-    /// The lowest grid point at which the sum is greatest: the posterior mode of the prior and the answers added.
+    /// The lowest grid point at which the sum is greatest: the posterior mode of the prior and the
+    /// answers added.
     pub fn mode(&self) -> u8
         ensures lowest { IsLowestGreatest self.now result }
         ensures mode { (b : Tables) (prior : List ℤ) (answers : AnswerList)

@@ -37,7 +37,8 @@ after_is (x ∷ all) after e = elim (cases_Bool (is_mark x)) [
       record { before = x ∷ r.before; p = r.p; one = r.one; is = ap (λ (l : List (List ℕ)). x ∷ l) r.is }
 ]
 
--- of the payloads of a file those that count are the last ones, and the version is by whether some do not
+-- of the payloads of a file those that count are the last ones, and the version is by whether some
+-- do not
 pub record IsCut (version : ℕ) (all : List (List ℕ)) : Type 0 where
   pub few : uncounted version all ≤ length all
   -- the last of those that do not count is the mark, of one byte

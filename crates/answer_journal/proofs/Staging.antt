@@ -33,7 +33,8 @@ kept_in bound a0 a1 w g =
 pub dropped_moments : (P : List ℕ → Type 0) (a0 a1 a2 : List Account) → AtEachMoment a0 a1 P → AllImages P (latest a1) → Grows (dropped (latest a1)) a1 a2 → AtEachMoment a0 a2 P
 dropped_moments P a0 a1 a2 so_far here g = goes_on P (dropped (latest a1)) a0 a1 a2 so_far g (λ file i. here file (image_of_dropped (latest a1) file i))
 
--- where one byte of a settled file was being written, that byte written again leaves nothing suspect
+-- where one byte of a settled file was being written, that byte written again leaves nothing
+-- suspect
 pub one_place_clean : (whole : List ℕ) (at : ℕ) (l : Account) → at < length whole → IsWithin l (dropped (written at 1 (settled whole))) → IsClean (renewed at 1 l)
 one_place_clean whole at l lt within p = elim (cases_eq p at) [
   | inl here ↦ without_clears at 1 l.suspect p (omega (arith, here)) (omega (arith, here))

@@ -1,4 +1,5 @@
--- The closed gate of a journal of the first version is opened, so that the records after the mark count.
+-- The closed gate of a journal of the first version is opened, so that the records after the mark
+-- count.
 use Rattle.std.proofs.Common.{◌≡◌, inl, inr, ℕ, ◌+◌, ◌≤◌, List, [], ◌∷◌, ◌++◌, length, get_or, Some, false, sym, ◌∙◌, ap, subst, arith, length-append}
 use Rattle.std.specs.Prelude.{Result, Ok, Err, OnOk}
 use Rattle.std.specs.Result.{is_err}

@@ -1,6 +1,6 @@
 //! A journal over a disk.
 
-ghost use Rattle.std.specs.Prelude.{◌≡◌, ◌≢◌, ◌≤◌, ◌<◌, ◌+◌, ◌-◌, ◌↔◌, ◌⊎◌, ◌==◌, List, ℕ, [], ◌∷◌, ◌++◌, length, take, get_or, slice_index, map, max, Some, None, IsTrue, is_some, unwrap_or, IfOk, IfErr, OnOk, OnErr};
+ghost use Rattle.std.specs.Prelude.{◌≡◌, ◌≢◌, ◌≤◌, ◌<◌, ◌+◌, ◌-◌, ◌↔◌, ◌⊎◌, ◌==◌, ℕ, [], ◌∷◌, ◌++◌, length, take, get_or, slice_index, map, Some, None, IsTrue, is_some, unwrap_or, IfOk, IfErr, OnOk, OnErr};
 ghost use Rattle.std.specs.Option.{ForSome};
 ghost use Rattle.exam_edge.specs.Faults.{Rose};
 ghost use Rattle.exam_edge.specs.Lent.{IsLent, FailsOnly};
@@ -98,9 +98,10 @@ impl<D: Disk> Journal<D> {
     ghost use Rattle.answer_journal.specs.Journal.{limit_of, doubt_of, payloads_of, version_of, start_of};
     ghost use Rattle.answer_journal.specs.Journal.{AreLengths, IsReady, IsDoubtful};
 
-    /// Tests the frames of a file, to walk over its payloads one after another. It syncs first, and writes nothing. The disk is
-    /// as a reboot or a journal left it: a record may be in doubt, or the gate that moves the journal. It takes no memory. The
-    /// limit of the journal's length is in bytes, at most 536,870,912. A refusal gives the disk back.
+    /// Tests the frames of a file, to walk over its payloads one after another. It syncs first, and
+    /// writes nothing. The disk is as a reboot or a journal left it: a record may be in doubt, or
+    /// the gate that moves the journal. It takes no memory. The limit of the journal's length is in
+    /// bytes, at most 536,870,912. A refusal gives the disk back.
     pub fn walk(disk: D, limit: u64) -> Result<Walk<D>, (D, OpenFault)>
         requires limit { limit ≤ 536870912 }
         requires left { IsTrue (D.tells disk) → IsAsLeft (D.accounts disk) }
@@ -176,10 +177,11 @@ impl<D: Disk> Journal<D> {
         }
     }
 
-    /// Opens a file, and gives its payloads with the places of their gates: first a walk over all of them, then its `finish`. It
-    /// makes a file of at most nine bytes an empty journal. In any other file it writes the gate of the mark, the last open gate
-    /// and the first closed one again as they read, and cuts what follows the closed one. The limit of the journal's length is
-    /// in bytes, at most 536,870,912. A refusal gives the disk back.
+    /// Opens a file, and gives its payloads with the places of their gates: first a walk over all
+    /// of them, then its `finish`. It makes a file of at most nine bytes an empty journal. In any
+    /// other file it writes the gate of the mark, the last open gate and the first closed one again
+    /// as they read, and cuts what follows the closed one. The limit of the journal's length is in
+    /// bytes, at most 536,870,912. A refusal gives the disk back.
     pub fn open(
         alloc: Global,
         disk: D,
@@ -204,7 +206,8 @@ impl<D: Disk> Journal<D> {
         ensures content { IfOk result (λ opened. IsTrue (D.tells disk)
             → content_of opened.0 ≡ opened_file (D.content disk) (length_of opened.0)) }
 
-        // The first thing that is wrong with the file, if anything is, unless memory or the disk failed.
+        // The first thing that is wrong with the file, if anything is, unless memory or the disk
+        // failed.
         ensures sound { IfOk result (λ opened. IsTrue (D.tells disk)
             → fault_in limit (D.content disk) ≡ None) }
         ensures why { IfErr result (λ e. IsTrue (D.tells disk)
@@ -214,7 +217,8 @@ impl<D: Disk> Journal<D> {
         ensures untouched { IfErr result (λ e. e.1 ≢ OpenFault.Disk → IsTrue (D.tells disk)
             → D.content e.0 ≡ D.content disk) }
 
-        // At each moment of the call a crash leaves what it might have left before, or the same payloads.
+        // At each moment of the call a crash leaves what it might have left before, or the same
+        // payloads.
         ensures moments { IfOk result (λ opened. IsTrue (D.tells disk)
             → AtEachMoment (D.accounts disk) (accounts_of opened.0)
             (IsImageOrHolds (latest (D.accounts disk)) (D.content disk))) }
@@ -262,9 +266,9 @@ impl<D: Disk> Journal<D> {
         }
     }
 
-    /// Adds a record, by four calls of the disk: write, sync, open the gate, sync. No record may be in doubt before. At
-    /// `Ok` it is on the disk. `Full` exactly where the new length, 5 bytes and the payload more, exceeds the limit. At
-    /// `Disk` the record is in doubt. It takes no memory.
+    /// Adds a record, by four calls of the disk: write, sync, open the gate, sync. No record may be
+    /// in doubt before. At `Ok` it is on the disk. `Full` exactly where the new length, 5 bytes and
+    /// the payload more, exceeds the limit. At `Disk` the record is in doubt. It takes no memory.
     pub fn append(&mut self, frame: &Frame) -> Result<(), AppendFault>
         requires ready { IsReady self.old }
         requires comes { IsTrue (tells_of self.old)
@@ -282,7 +286,8 @@ impl<D: Disk> Journal<D> {
             → AllImages (λ file. contents file
             ≡ Some (second (payloads_of self.old ++ frame.now ∷ [])))
             (latest (accounts_of self.new))) }
-        // At each moment of the call a crash leaves the payloads from before it, or those with the new one.
+        // At each moment of the call a crash leaves the payloads from before it, or those with the
+        // new one.
         ensures moments { IsTrue (tells_of self.old)
             → AtEachMoment (accounts_of self.old) (accounts_of self.new)
             (HoldsOrOneMore (payloads_of self.old) frame.now) }
@@ -326,16 +331,17 @@ impl<D: Disk> Journal<D> {
         }
     }
 
-    /// Whether a record is in doubt: a call of the disk failed while it was added, and it was not resolved since.
+    /// Whether a record is in doubt: a call of the disk failed while it was added, and it was not
+    /// resolved since.
     pub fn in_doubt(&self) -> bool
         ensures { result ≡ is_some (doubt_of self.now) }
     {
         self.doubt.is_some()
     }
 
-    /// Resolves the record in doubt: reads its gate, writes it again as it reads, and syncs. It keeps the record exactly where
-    /// the gate reads open, and else cuts it off and syncs. At `Failed` the record stays in doubt, and the disk has counted a
-    /// fault. It takes no memory.
+    /// Resolves the record in doubt: reads its gate, writes it again as it reads, and syncs. It
+    /// keeps the record exactly where the gate reads open, and else cuts it off and syncs. At
+    /// `Failed` the record stays in doubt, and the disk has counted a fault. It takes no memory.
     pub fn mend(&mut self) -> Result<Adopted, Failed>
         requires { (ps : _) × (payload : _) × IsDoubtful ps payload self.old
             × (IsTrue (tells_of self.old)
@@ -394,7 +400,8 @@ impl<D: Disk> Journal<D> {
         self.size
     }
 
-    /// The version that the header names, 1 or 2. The records that count are of the second version in either.
+    /// The version that the header names, 1 or 2. The records that count are of the second version
+    /// in either.
     pub fn version(&self) -> u8
         ensures { result ≡ version_of self.now }
     {
@@ -409,9 +416,10 @@ impl<D: Disk> Journal<D> {
         self.start
     }
 
-    /// Reads the payload after the gate at a place, which is one of the gates from the first that counts to the closed one.
-    /// `None` exactly at the closed gate; at any other place the answer means nothing. No record may be in doubt. The file is
-    /// not changed. Only of a disk that does not report its content the record may not be there any more: then there is none.
+    /// Reads the payload after the gate at a place, which is one of the gates from the first that
+    /// counts to the closed one. `None` exactly at the closed gate; at any other place the answer
+    /// means nothing. No record may be in doubt. The file is not changed. Only of a disk that does
+    /// not report its content the record may not be there any more: then there is none.
     pub fn read_frame(&mut self, alloc: Global, at: u64) -> Result<Option<Vec<u8>>, WalkFault>
         requires ready { IsReady self.old }
         requires gate { at < length_of self.old }

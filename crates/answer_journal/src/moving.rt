@@ -1,7 +1,7 @@
-//! A journal of the first version is moved to records of the second: they are written after its closed gate, many at once, and
-//! it is opened once they are on the disk.
+//! A journal of the first version is moved to records of the second: they are written after its
+//! closed gate, many at once, and it is opened once they are on the disk.
 
-ghost use Rattle.std.specs.Prelude.{◌≡◌, ◌≢◌, ◌⊎◌, ℕ, ◌+◌, ◌-◌, ◌<◌, ◌≤◌, List, [], ◌∷◌, ◌++◌, length, take, get_or, None, Some, IsTrue, IfOk, IfErr, OnOk, OnErr};
+ghost use Rattle.std.specs.Prelude.{◌≡◌, ℕ, ◌+◌, ◌-◌, ◌<◌, ◌≤◌, List, [], ◌∷◌, ◌++◌, length, take, get_or, None, Some, IsTrue, IfOk, IfErr, OnOk, OnErr};
 ghost use Rattle.std.specs.Int.{to_be_bytes, w32};
 ghost use Rattle.std.specs.Option.{ForSome};
 ghost use Rattle.exam_edge.specs.Faults.{Rose};
@@ -32,15 +32,17 @@ const BATCH: usize = 65_536;
 pub enum MoveFault {
     /// The journal would have this length in bytes, above its limit. Nothing was written.
     Full(u64),
-    /// A call of the disk failed, and the disk has counted that. Any part of the records that waited may be written.
+    /// A call of the disk failed, and the disk has counted that. Any part of the records that
+    /// waited may be written.
     Disk,
     /// Out of memory. Nothing was written.
     Memory,
 }
 
-/// A journal of the first version that is being moved. Its frames and its closed gate are on the disk; after that gate are the
-/// mark and the records of the second version so far, which do not count. The last of these records wait in memory until there
-/// are many to write. `switch` opens the gate: then only they count.
+/// A journal of the first version that is being moved. Its frames and its closed gate are on the
+/// disk; after that gate are the mark and the records of the second version so far, which do not
+/// count. The last of these records wait in memory until there are many to write. `switch` opens
+/// the gate: then only they count.
 pub struct Moving<D: Disk> {
     pub(crate) disk: D,
     pub(crate) limit: u64,
@@ -53,7 +55,7 @@ pub struct Moving<D: Disk> {
 }
 
 impl<D: Disk> Model for Moving<D> {
-    ghost use Rattle.std.specs.Prelude.{◌≤◌, ◌<◌, ◌+◌, ◌⊎◌};
+    ghost use Rattle.std.specs.Prelude.{◌≤◌, ◌<◌, ◌+◌};
     ghost use Rattle.answer_journal.specs.Moving.{MovingState, ArePlaces};
 
     ghost Value = { MovingState D };
@@ -69,7 +71,8 @@ impl<D: Disk> Model for Moving<D> {
     ghost invariant = { λ m. ArePlaces m.limit m.gate m.end m.waiting.items };
 }
 
-/// Writes the mark after the closed gate at a place, which ends the file. Nothing is synced, and the gate stays closed.
+/// Writes the mark after the closed gate at a place, which ends the file. Nothing is synced, and
+/// the gate stays closed.
 pub fn write_mark<D: Disk>(disk: &mut D, gate: u64) -> Result<(), Failed>
     requires few { gate < 536870912 }
     requires rest { IsTrue (D.tells disk.old)
@@ -92,8 +95,8 @@ pub fn write_mark<D: Disk>(disk: &mut D, gate: u64) -> Result<(), Failed>
     Ok(())
 }
 
-// Adds a record to those that wait: an open gate, the length of its payload, and the payload. The list is as it was if memory
-// runs out.
+// Adds a record to those that wait: an open gate, the length of its payload, and the payload. The
+// list is as it was if memory runs out.
 fn put_record(waiting: &mut Vec<u8>, payload: &[u8]) -> Result<(), Memory>
     requires { IsPayload payload.now }
     ensures added { OnOk result (waiting.new.items ≡ waiting.old.items
@@ -108,7 +111,8 @@ fn put_record(waiting: &mut Vec<u8>, payload: &[u8]) -> Result<(), Memory>
     Ok(())
 }
 
-// Writes the records that wait at the end of the file, all at once; then it has the length `end`. Nothing is synced.
+// Writes the records that wait at the end of the file, all at once; then it has the length `end`.
+// Nothing is synced.
 fn write_waiting<D: Disk>(disk: &mut D, end: u64, waiting: &[u8]) -> Result<(), Failed>
     requires within { length waiting.now ≤ end }
     requires moving { IsTrue (D.tells disk.old) → (ps qs : List (List ℕ)) × (gate : ℕ)
@@ -180,7 +184,8 @@ fn close_after<D: Disk>(disk: &mut D, end: u64) -> Result<(), Failed>
     Ok(())
 }
 
-// Writes the last records, which wait, and the closed gate after them, and syncs: then all of the file is on the disk.
+// Writes the last records, which wait, and the closed gate after them, and syncs: then all of the
+// file is on the disk.
 fn write_rest<D: Disk>(disk: &mut D, end: u64, last: &[u8]) -> Result<(), Failed>
     requires within { length last.now ≤ end }
     requires moving { IsTrue (D.tells disk.old) → (ps qs : List (List ℕ)) × (gate : ℕ)
@@ -202,7 +207,8 @@ fn write_rest<D: Disk>(disk: &mut D, end: u64, last: &[u8]) -> Result<(), Failed
     Ok(())
 }
 
-// Opens the closed gate before the mark and the records of the second version, once all of the file is on the disk.
+// Opens the closed gate before the mark and the records of the second version, once all of the file
+// is on the disk.
 fn open_switch<D: Disk>(disk: &mut D, gate: u64) -> Result<(), Failed>
     requires whole { IsTrue (D.tells disk.old) → (ps qs : List (List ℕ))
         × IsWritten ps qs (D.content disk.old) (D.accounts disk.old) gate
@@ -225,8 +231,9 @@ fn open_switch<D: Disk>(disk: &mut D, gate: u64) -> Result<(), Failed>
 }
 
 impl<D: Disk> Moving<D> {
-    /// Reads the payload after the gate at a place of the old journal, which is one of its gates. `None` exactly at the closed
-    /// one. Only of a disk that does not report its content the record may not be there any more: then there is none.
+    /// Reads the payload after the gate at a place of the old journal, which is one of its gates.
+    /// `None` exactly at the closed one. Only of a disk that does not report its content the record
+    /// may not be there any more: then there is none.
     pub fn read_old(&mut self, alloc: Global, at: u64) -> Result<Option<Vec<u8>>, WalkFault>
         requires gate { at ≤ self.old.gate }
         requires moving { IsTrue (D.tells self.old.disk) → (ps qs : List (List ℕ))
@@ -256,9 +263,10 @@ impl<D: Disk> Moving<D> {
         read_before(alloc, &mut self.disk, at, self.gate, written)
     }
 
-    /// Adds a record of the second version, of this payload, to those so far. It does not count yet. It waits in memory, and is
-    /// written with those that wait once these are many. `Full` exactly where the file with it and the gate at its end would
-    /// exceed the journal's limit. At `Full` and `Memory` nothing was changed; at `Disk` any part of what waited may be written.
+    /// Adds a record of the second version, of this payload, to those so far. It does not count
+    /// yet. It waits in memory, and is written with those that wait once these are many. `Full`
+    /// exactly where the file with it and the gate at its end would exceed the journal's limit. At
+    /// `Full` and `Memory` nothing was changed; at `Disk` any part of what waited may be written.
     pub fn add(&mut self, payload: &[u8]) -> Result<(), MoveFault>
         requires fits { IsPayload payload.now }
         requires moving { IsTrue (D.tells self.old.disk) → (ps qs : List (List ℕ))
@@ -305,9 +313,9 @@ impl<D: Disk> Moving<D> {
         Ok(())
     }
 
-    /// Writes the records that wait and the gate at the end, syncs, opens the closed gate, and syncs: from then on the records
-    /// after the mark count, and those before it do not. If a call of the disk fails, the disk has counted that and comes back,
-    /// and either may count.
+    /// Writes the records that wait and the gate at the end, syncs, opens the closed gate, and
+    /// syncs: from then on the records after the mark count, and those before it do not. If a call
+    /// of the disk fails, the disk has counted that and comes back, and either may count.
     pub fn switch(self) -> Result<D, D>
         requires { IsTrue (D.tells self.disk) → (ps qs : List (List ℕ))
             × IsMovingWith ps qs (D.content self.disk) self.waiting (D.accounts self.disk)
@@ -370,7 +378,8 @@ impl<D: Disk> Moving<D> {
         self.end
     }
 
-    /// The disk as it is, without the records that wait. The closed gate is closed, and the old records count.
+    /// The disk as it is, without the records that wait. The closed gate is closed, and the old
+    /// records count.
     pub fn stop(self) -> D
         ensures disk { result ≡ self.disk }
         ensures left { IsTrue (D.tells self.disk) → (ps qs : List (List ℕ))

@@ -20,9 +20,10 @@ use crate::frames::EMPTY_JOURNAL;
 use crate::gates::test_frames;
 use exam_edge::{Disk, Failed};
 
-/// The length of a file in bytes, the place of its first closed gate, the version that its header names, the place of the
-/// first gate whose record counts, and how many records before that do not count. A file of at most nine bytes is to have
-/// the header of the second version, and directly after it the closed gate.
+/// The length of a file in bytes, the place of its first closed gate, the version that its header
+/// names, the place of the first gate whose record counts, and how many records before that do not
+/// count. A file of at most nine bytes is to have the header of the second version, and directly
+/// after it the closed gate.
 #[derive(Clone, Copy)]
 pub struct Extent {
     pub size: u64,
@@ -103,8 +104,8 @@ pub fn test_file<D: Disk>(disk: &mut D, limit: u64) -> Result<Extent, OpenFault>
     }
 }
 
-// Cuts a file of at most nine bytes to its own length, since it may be longer on the disk, and syncs: then only the bytes of
-// a header may be suspect.
+// Cuts a file of at most nine bytes to its own length, since it may be longer on the disk, and
+// syncs: then only the bytes of a header may be suspect.
 fn settle_short<D: Disk>(disk: &mut D, extent: Extent) -> Result<(), Failed>
     requires short { extent.size ≤ 9 }
     requires extent { IsExtent (D.tells disk.old) (D.content disk.old)
@@ -212,8 +213,9 @@ pub fn settle_mark<D: Disk>(disk: &mut D, extent: Extent) -> Result<(), Failed>
     Ok(())
 }
 
-// Writes the gate of the mark, the last open gate and the first closed one again as they read, and syncs: one of them may be
-// only in the host's memory, where the last writer of the file ended after a sync that failed.
+// Writes the gate of the mark, the last open gate and the first closed one again as they read, and
+// syncs: one of them may be only in the host's memory, where the last writer of the file ended
+// after a sync that failed.
 fn settle_gates<D: Disk>(disk: &mut D, extent: Extent, last: u64) -> Result<(), Failed>
     requires long { 9 < extent.size }
     requires extent { IsExtent (D.tells disk.old) (D.content disk.old)
@@ -238,8 +240,8 @@ fn settle_gates<D: Disk>(disk: &mut D, extent: Extent, last: u64) -> Result<(), 
     Ok(())
 }
 
-// Cuts a file of more than nine bytes after its first closed gate, also where nothing follows: bytes of a cut that was not
-// synced may do so on the disk.
+// Cuts a file of more than nine bytes after its first closed gate, also where nothing follows:
+// bytes of a cut that was not synced may do so on the disk.
 fn cut_file<D: Disk>(disk: &mut D, extent: Extent) -> Result<(), Failed>
     requires few { extent.end + 1 < 2 ^ 64 }
     requires long { IsTrue (D.tells disk.old) → 9 < length (D.content disk.old) }
@@ -270,8 +272,8 @@ fn cut_file<D: Disk>(disk: &mut D, extent: Extent) -> Result<(), Failed>
     Ok(())
 }
 
-/// Makes a file of this extent a journal, all of it on the disk: it ends with its first closed gate. The last open gate is at
-/// `last`.
+/// Makes a file of this extent a journal, all of it on the disk: it ends with its first closed
+/// gate. The last open gate is at `last`.
 pub fn finish_file<D: Disk>(disk: &mut D, extent: Extent, last: u64) -> Result<(), Failed>
     requires extent { IsExtent (D.tells disk.old) (D.content disk.old)
         (D.accounts disk.old) extent }

@@ -44,9 +44,10 @@ impl From<AllocError> for WalkFault {
 }
 
 /// A file whose frames were tested up to the first closed gate, and that was not changed. It gives
-/// the payloads that count one after another. Once all were given, `finish` makes the file a journal,
-/// and `start_move` begins to move one of the first version; `stop` leaves it as it is. Contracts see
-/// the place of the next gate, how many payloads of the file were given, and the versions.
+/// the payloads that count one after another. Once all were given, `finish` makes the file a
+/// journal, and `start_move` begins to move one of the first version; `stop` leaves it as it is.
+/// Contracts see the place of the next gate, how many payloads of the file were given, and the
+/// versions.
 pub struct Walk<D: Disk> {
     pub(crate) disk: D,
     pub(crate) limit: u64,
@@ -79,7 +80,8 @@ impl<D: Disk> Model for Walk<D> {
         (D.accounts w.disk) w.limit w.extent w.at w.passed w.last };
 }
 
-// The length of the payload after the gate at a place of a file of this length, where that record ends by the gate at `end`.
+// The length of the payload after the gate at a place of a file of this length, where that record
+// ends by the gate at `end`.
 fn find_record<D: Disk>(disk: &mut D, at: u64, end: u64, size: u64) -> Result<Option<usize>, Failed>
     requires before { at < end }
     requires within { end < size }
@@ -146,8 +148,8 @@ fn refill(buffer: &mut Vec<u8>, bytes: Vec<u8>)
     *buffer = bytes;
 }
 
-// Reads the payload after the gate at a place before `end`. Only of a disk that doesn't report its content the
-// record may not be there any more: then there is none.
+// Reads the payload after the gate at a place before `end`. Only of a disk that doesn't report its
+// content the record may not be there any more: then there is none.
 fn read_record<D: Disk>(
     alloc: Global,
     disk: &mut D,
@@ -178,8 +180,9 @@ fn read_record<D: Disk>(
     }
 }
 
-/// Reads the payload after the gate at a place up to `end`, where there is none. The file has this length. Only of a disk that
-/// doesn't report its content the record may not be there any more: then there is none.
+/// Reads the payload after the gate at a place up to `end`, where there is none. The file has this
+/// length. Only of a disk that doesn't report its content the record may not be there any more:
+/// then there is none.
 pub fn read_before<D: Disk>(
     alloc: Global,
     disk: &mut D,
@@ -299,8 +302,8 @@ impl<D: Disk> Walk<D> {
         self.extent.version
     }
 
-    /// The version of the records that the walk gives: 2 also for a file with the header of the first version that was
-    /// moved.
+    /// The version of the records that the walk gives: 2 also for a file with the header of the
+    /// first version that was moved.
     pub fn record_version(&self) -> u8
         ensures version { result ≡ self.now.record_version }
         ensures one_of { (result ≡ 1) ⊎ (result ≡ 2) }
@@ -320,8 +323,8 @@ impl<D: Disk> Walk<D> {
         self.extent.end + 1
     }
 
-    /// Puts aside what follows the first closed gate, where anything does: `finish` cuts it, and puts it aside itself. The
-    /// file and the walk stay as they are.
+    /// Puts aside what follows the first closed gate, where anything does: `finish` cuts it, and
+    /// puts it aside itself. The file and the walk stay as they are.
     pub fn put_tail_aside(&mut self) -> Result<(), Failed>
         ensures at { self.new.at ≡ self.old.at }
         ensures given { self.new.given ≡ self.old.given }
@@ -344,8 +347,8 @@ impl<D: Disk> Walk<D> {
         put_tail_aside(&mut self.disk, self.extent)
     }
 
-    /// Writes the gate of the mark again as it reads, where one moved the file, and syncs: the last writer may have ended after
-    /// a sync that failed. The file and the walk stay as they are.
+    /// Writes the gate of the mark again as it reads, where one moved the file, and syncs: the last
+    /// writer may have ended after a sync that failed. The file and the walk stay as they are.
     pub fn settle_mark(&mut self) -> Result<(), Failed>
         ensures at { self.new.at ≡ self.old.at }
         ensures given { self.new.given ≡ self.old.given }
@@ -374,9 +377,9 @@ impl<D: Disk> Walk<D> {
         settle_mark(&mut self.disk, self.extent)
     }
 
-    /// Makes the file a journal, as opening does, once all payloads were given. What follows the first closed gate is put
-    /// aside before it is cut. If a call of the disk fails, the disk has counted that and comes back. The file may then be
-    /// changed in part.
+    /// Makes the file a journal, as opening does, once all payloads were given. What follows the
+    /// first closed gate is put aside before it is cut. If a call of the disk fails, the disk has
+    /// counted that and comes back. The file may then be changed in part.
     pub fn finish(self) -> Result<Journal<D>, (D, OpenFault)>
         requires version { self.record_version ≡ 2 }
         requires all { IsTrue (D.tells self.disk)
@@ -404,7 +407,8 @@ impl<D: Disk> Walk<D> {
             (λ e. e.1 ≡ OpenFault.Disk → Rose (D.faults self.disk) (D.faults e.0)) }
         ensures untouched { IfErr result (λ e. e.1 ≢ OpenFault.Disk → e.0 ≡ self.disk) }
 
-        // At each moment of the call a crash leaves what it might have left before, or the same payloads.
+        // At each moment of the call a crash leaves what it might have left before, or the same
+        // payloads.
         ensures moments { IfOk result (λ journal. IsTrue (D.tells self.disk)
             → AtEachMoment (D.accounts self.disk) (accounts_of journal)
             (IsImageOrHolds (latest (D.accounts self.disk)) (D.content self.disk))) }
@@ -462,10 +466,11 @@ impl<D: Disk> Walk<D> {
         }
     }
 
-    /// Makes the file of a journal of the first version ready to be moved, once all payloads were given: as `finish` does it
-    /// puts aside and cuts what follows the first closed gate. Then it writes the mark after that gate, which stays closed.
-    /// There has to be room for the mark and a gate. If a call of the disk fails, the disk has counted that and comes back.
-    /// The file may then be changed in part.
+    /// Makes the file of a journal of the first version ready to be moved, once all payloads were
+    /// given: as `finish` does it puts aside and cuts what follows the first closed gate. Then it
+    /// writes the mark after that gate, which stays closed. There has to be room for the mark and a
+    /// gate. If a call of the disk fails, the disk has counted that and comes back. The file may
+    /// then be changed in part.
     pub fn start_move(self, alloc: Global) -> Result<Moving<D>, (D, OpenFault)>
         requires version { self.record_version ≡ 1 }
         requires room { self.size + 6 ≤ self.limit }
@@ -490,7 +495,8 @@ impl<D: Disk> Walk<D> {
             (λ e. e.1 ≡ OpenFault.Disk → Rose (D.faults self.disk) (D.faults e.0)) }
         ensures untouched { IfErr result (λ e. e.1 ≢ OpenFault.Disk → e.0 ≡ self.disk) }
 
-        // At each moment of the call a crash leaves what it might have left before, or the same payloads.
+        // At each moment of the call a crash leaves what it might have left before, or the same
+        // payloads.
         ensures moments { IfOk result (λ moving. IsTrue (D.tells self.disk)
             → AtEachMoment (D.accounts self.disk) (D.accounts moving.disk)
             (IsImageOrUnmoved (latest (D.accounts self.disk))

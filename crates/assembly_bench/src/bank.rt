@@ -20,8 +20,8 @@ fn quantity_rows(size: &Size) -> u32 {
     n
 }
 
-/// The information of an item. With the price of its words it is greatest for the items of the best form; alone it isn't, since
-/// the fewer words an item has the more information it has.
+/// The information of an item. With the price of its words it is greatest for the items of the best
+/// form; alone it isn't, since the fewer words an item has the more information it has.
 fn information(size: &Size, quantity_rows: u32, item: u16) -> u32
     requires { item ≤ 512 }
 {

@@ -1,6 +1,6 @@
 //! The best form of a made problem.
 
-ghost use Rattle.std.specs.Prelude.{◌≤◌, ◌<◌, ◌*◌};
+ghost use Rattle.std.specs.Prelude.{◌≤◌, ◌*◌};
 
 use crate::size::Size;
 use bank_tables::ItemSet;

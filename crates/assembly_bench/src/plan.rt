@@ -1,6 +1,6 @@
 //! The plan of a made problem.
 
-ghost use Rattle.std.specs.Prelude.{◌≤◌, ◌<◌, ◌*◌};
+ghost use Rattle.std.specs.Prelude.{◌<◌, ◌*◌};
 
 use crate::form::{best_form, best_stimuli, best_with, best_words};
 use crate::size::Size;

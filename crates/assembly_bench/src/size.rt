@@ -52,7 +52,8 @@ impl Size {
         item % self.stride() == 0 && item / self.stride() < self.length()
     }
 
-    /// The stimulus of an item, 0 for none: an item in three has none, and the others have one after the other in turn.
+    /// The stimulus of an item, 0 for none: an item in three has none, and the others have one
+    /// after the other in turn.
     pub fn stimulus(&self, item: u16) -> u8
         ensures { result ≤ self.now.stimuli }
     {

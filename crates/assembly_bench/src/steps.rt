@@ -159,7 +159,8 @@ fn serve_item<R: Print + AllocGlobal>(
     Ok(seat_after(problem, session.bank, session.spec, seat, &service))
 }
 
-/// Serves one step and prints it. Its search may begin with the vector, and leaves one for the next.
+/// Serves one step and prints it. Its search may begin with the vector, and leaves one for the
+/// next.
 fn step<R: Print + Clock + AllocGlobal>(
     rt: &R,
     session: &Session,

@@ -1,6 +1,6 @@
 //! A made tree.
 
-ghost use Rattle.std.specs.Prelude.{◌≤◌, ◌<◌, ◌*◌};
+ghost use Rattle.std.specs.Prelude.{◌<◌, ◌*◌};
 
 use crate::form::best_with;
 use crate::size::Size;
@@ -91,8 +91,8 @@ fn nodes(alloc: Global, order: &[Node], count: u16) -> Result<Vec<Node>, AllocEr
     Ok(nodes)
 }
 
-/// A tree with at most so many nodes, all sound, each leaf a Bound leaf; with `open` the last one is Open. None where no such
-/// tree can be made.
+/// A tree with at most so many nodes, all sound, each leaf a Bound leaf; with `open` the last one
+/// is Open. None where no such tree can be made.
 pub fn tree(
     alloc: Global,
     size: &Size,

@@ -1,6 +1,6 @@
 //! The vectors of a made tree.
 
-ghost use Rattle.std.specs.Prelude.{◌≤◌, ◌<◌, ◌*◌};
+ghost use Rattle.std.specs.Prelude.{◌<◌, ◌*◌};
 
 use crate::form::best_with;
 use crate::plan::{Kind, kind_of};
@@ -12,7 +12,8 @@ use std::alloc::{AllocError, Global};
 /// The multiplier of a row on the number of words.
 pub const WORD_PRICE: u32 = 10_000;
 
-/// The side of a row that the best form just meets, with its multiplier, which differs a little from vector to vector.
+/// The side of a row that the best form just meets, with its multiplier, which differs a little
+/// from vector to vector.
 fn row_pair(size: &Size, row: u8, which: u8) -> (u16, u32) {
     let side = 2 * row as u16;
     match kind_of(size, row) {
@@ -22,7 +23,8 @@ fn row_pair(size: &Size, row: u8, which: u8) -> (u16, u32) {
     }
 }
 
-/// The same for a stimulus: the high side where the best form has items with it, and else the low side.
+/// The same for a stimulus: the high side where the best form has items with it, and else the low
+/// side.
 fn stimulus_pair(size: &Size, stimulus: u8, which: u8) -> (u16, u32)
     requires { 0 < stimulus }
 {

@@ -1,6 +1,6 @@
 //! The draws.
 
-ghost use Rattle.std.specs.Prelude.{◌≡◌, ◌<◌, ◌^◌};
+ghost use Rattle.std.specs.Prelude.{◌≡◌};
 ghost use Rattle.bank_maker.specs.Draws.{next_state, upper_bits};
 
 /// A linear congruential generator of 64 bits, with Knuth's constants for MMIX (The Art of Computer

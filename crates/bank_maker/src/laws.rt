@@ -1,6 +1,6 @@
 //! What the definitions mean: functions that do nothing, and whose clauses are laws.
 
-ghost use Rattle.std.specs.Prelude.{◌≡◌, ℕ, ◌≤◌, List, [], ◌∷◌, length, None};
+ghost use Rattle.std.specs.Prelude.{◌≡◌, ℕ, ◌≤◌, [], ◌∷◌, length, None};
 ghost use Rattle.history_model.specs.declared.request.Request.TheVariants.{Begin, Answer, Close};
 ghost use Rattle.bank_reader.specs.Grammar.{IsBankText};
 ghost use Rattle.replay_cli.specs.Scripts.{IsScript};
@@ -15,7 +15,8 @@ ghost use Rattle.form_model.specs.Plan.{Plan};
 ghost use Rattle.spec_reader.specs.Plans.{plan_said};
 ghost use Rattle.spec_reader.specs.Reading.{IsPlanText, most_bytes as most_of_plan};
 
-/// Worked values of the drill of number 7, which `tools/drill_texts.py` computes from the rules alone.
+/// Worked values of the drill of number 7, which `tools/drill_texts.py` computes from the rules
+/// alone.
 pub fn drill_of_seven()
     ensures draws { draw 7 0 ∷ draw 7 1 ∷ draw 7 2 ∷ []
         ≡ 1059165278 ∷ 2052263231 ∷ 1946856753 ∷ [] }
@@ -42,8 +43,8 @@ pub fn a_bank_is_read()
     ensures { (number : ℕ) → IsBankText (bank_of_drill number) (tables_of_drill number) }
 {}
 
-/// The plan text of a drill is a text of a plan that is valid for the drill's bank, and is short enough
-/// to be read. Each plan that it is a text of has the stated numbers, sets and base form.
+/// The plan text of a drill is a text of a plan that is valid for the drill's bank, and is short
+/// enough to be read. Each plan that it is a text of has the stated numbers, sets and base form.
 pub fn a_plan_is_read()
     ensures plan { (number sessions : ℕ) → 1 ≤ sessions → sessions ≤ 200
         → (p : Plan) × IsPlanOfDrill number sessions p }

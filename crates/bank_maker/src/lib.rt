@@ -1,7 +1,7 @@
 //! The bank, the plan and the script of a drill, made from a number.
 //!
-//! Upward it promises that the three texts are the stated ones, byte for byte, and that the bank text
-//! and the script are read. It reads no text, and does not examine.
+//! Upward it promises that the three texts are the stated ones, byte for byte, and that the bank
+//! text and the script are read. It reads no text, and does not examine.
 #![tactic(auto)]
 
 mod act;

@@ -1,6 +1,6 @@
 //! The script.
 
-ghost use Rattle.std.specs.Prelude.{◌≡◌, ◌++◌, ◌∷◌, [], IfOk, string_bytes};
+ghost use Rattle.std.specs.Prelude.{◌≡◌, IfOk};
 ghost use Rattle.bank_maker.specs.Scripts.{request_at, state_behind, script_text};
 ghost use Rattle.replay_cli.specs.Scripts.{request_line};
 

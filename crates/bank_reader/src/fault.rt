@@ -8,15 +8,16 @@ use bank_tables::BankFault;
 use std::alloc::{AllocError, AllocFailed};
 use text_source::TextFault;
 
-/// The first fault of a bank text, from its front on. Record 0 is the header, record k is item k - 1; records count without
-/// empty lines, columns count from 0.
+/// The first fault of a bank text, from its front on. Record 0 is the header, record k is item k -
+/// 1; records count without empty lines, columns count from 0.
 #[derive(Clone, Copy, Debug, PartialEq, Eq)]
 pub enum ReadFault {
     /// A call of the source failed.
     Source,
     /// The text has more than 4,194,304 bytes.
     TooLong,
-    /// The first column that no header has after the columns before it; or the number of columns, where some are missing.
+    /// The first column that no header has after the columns before it; or the number of columns,
+    /// where some are missing.
     Header(u64),
     /// The number of fields of this record is not that of the header.
     Csv(u64),

@@ -1,9 +1,9 @@
 //! The item in a record.
 
-ghost use Rattle.std.specs.Prelude.{◌≡◌, ℕ, ◌+◌, ◌*◌, ◌<◌, ◌≤◌, ◌^◌, length, map, IfOk};
+ghost use Rattle.std.specs.Prelude.{◌≡◌, ◌+◌, ◌*◌, ◌<◌, ◌≤◌, map};
 ghost use Rattle.csv.specs.Records.{fields_of};
 ghost use Rattle.exam_text.specs.First.{Gives};
-ghost use Rattle.bank_reader.specs.Columns.{IsShape, width, first_loglik};
+ghost use Rattle.bank_reader.specs.Columns.{IsShape, first_loglik};
 ghost use Rattle.bank_reader.specs.Reading.{item_at, items_at};
 ghost use Rattle.bank_reader.specs.declared.fault.ReadFault.TheVariants.{Memory};
 

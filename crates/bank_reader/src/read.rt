@@ -86,12 +86,13 @@ fn read_whole<S: Source>(alloc: Global, source: &mut S) -> Result<Bank, ReadFaul
     bank_in(alloc, &text)
 }
 
-/// The item bank that the text of a source is, read to its end; or the first fault, from the front of the text on.
+/// The item bank that the text of a source is, read to its end; or the first fault, from the front
+/// of the text on.
 ///
-/// The text is CSV as in RFC 4180. The header's columns are `item`, `stimulus`, `categories`; `q0` on, up to 8 quantities;
-/// `i0` on, the information at 1 to 61 grid points; then for each of 2 to 5 responses r and each grid point g the
-/// log-likelihood `l`r`_`g. Each record after it is an item, from 0 on; the log-likelihoods of
-/// responses that the item does not have are empty.
+/// The text is CSV as in RFC 4180. The header's columns are `item`, `stimulus`, `categories`; `q0`
+/// on, up to 8 quantities; `i0` on, the information at 1 to 61 grid points; then for each of 2 to 5
+/// responses r and each grid point g the log-likelihood `l`r`_`g. Each record after it is an item,
+/// from 0 on; the log-likelihoods of responses that the item does not have are empty.
 pub fn read_bank<S: Source>(alloc: Global, source: &mut S) -> Result<Bank, ReadFault>
     // What is read is a bank text, and a bank text is read.
     ensures found { IfOk result (λ b. IsTrue (S.tells source.old)

@@ -3,8 +3,9 @@ use Rattle.std.specs.Prelude.{ℕ, ◌+◌, ◌*◌, ℤ, pos, [], length, get_o
 use Rattle.bank_tables.specs.declared.rows.ItemRow.{ItemRow}
 use Rattle.bank_tables.specs.declared.rows.Rows.{Rows}
 
--- a grid of ability points, a number of quantities, and for each item its stimulus, its number of response
--- categories, its quantities, its information at each grid point, and its log-likelihoods by response and point
+-- a grid of ability points, a number of quantities, and for each item its stimulus, its number of
+-- response categories, its quantities, its information at each grid point, and its log-likelihoods
+-- by response and point
 abbrev pub Tables : Type 0
 Tables = Rows
 

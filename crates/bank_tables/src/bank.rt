@@ -1,6 +1,6 @@
 //! An item bank.
 
-ghost use Rattle.std.specs.Prelude.{◌≡◌, ◌≤◌, ◌<◌, ℕ, Some, None, IfOk, IfErr};
+ghost use Rattle.std.specs.Prelude.{◌≡◌, ◌<◌, Some, None, IfOk, IfErr};
 ghost use Rattle.bank_tables.specs.Tables.{size, stimulus, categories, quantity, info, loglik};
 ghost use Rattle.bank_tables.specs.Validity.{IsBank};
 ghost use Rattle.bank_tables.specs.Sums.{greatest_below};
@@ -13,8 +13,8 @@ use crate::rows::{ItemRow, Rows};
 use std::alloc::Global;
 use std::marker::Model;
 
-/// An item bank: rows whose numbers are within their bounds, with the greatest stimulus number, so that it is looked up once.
-/// The rows are moved in, so they keep the types that they are given in.
+/// An item bank: rows whose numbers are within their bounds, with the greatest stimulus number, so
+/// that it is looked up once. The rows are moved in, so they keep the types that they are given in.
 #[derive(Debug, Drop)]
 pub struct Bank {
     grid: u8,
@@ -51,8 +51,9 @@ fn greatest_stimulus(rows: &Rows) -> u8
 }
 
 impl Bank {
-    /// The bank of these rows, or their first fault: the tests go in the order of `BankFault`'s variants, from `BadStimulus` on
-    /// item by item. It takes no memory of its own, so `BankFault::Memory` is never given.
+    /// The bank of these rows, or their first fault: the tests go in the order of `BankFault`'s
+    /// variants, from `BadStimulus` on item by item. It takes no memory of its own, so
+    /// `BankFault::Memory` is never given.
     pub fn of(_alloc: Global, rows: Rows) -> Result<Bank, BankFault>
         ensures bank { IfOk result (λ b. b ≡ rows) }
         ensures faultless { IfOk result (λ _. bank_fault rows ≡ None) }

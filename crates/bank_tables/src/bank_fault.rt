@@ -1,6 +1,7 @@
 //! The first fault of the rows of an item bank.
 
-/// Why rows are no item bank. Of several faults it is the first in this order, item by item from the fourth on.
+/// Why rows are no item bank. Of several faults it is the first in this order, item by item from
+/// the fourth on.
 #[derive(Clone, Copy, Debug, PartialEq, Eq)]
 pub enum BankFault {
     /// There is no item.

@@ -1,6 +1,6 @@
 //! The tests that rows of an item bank must pass.
 
-ghost use Rattle.std.specs.Prelude.{◌≡◌, ℕ, ◌+◌, ◌*◌, ◌<◌, ◌≤◌, ◌^◌, length, ◌==◌, ◌&&◌, nat_le};
+ghost use Rattle.std.specs.Prelude.{◌≡◌, ◌*◌, ◌<◌, ◌≤◌, ◌==◌, ◌&&◌, nat_le};
 ghost use Rattle.std.specs.List.{list_all};
 ghost use Rattle.bank_tables.specs.Tables.{size};
 ghost use Rattle.bank_tables.specs.Faults.{are_numbers, is_loglik, item_fault, items_fault, bank_fault};

@@ -1,6 +1,6 @@
 //! A set of items.
 
-ghost use Rattle.std.specs.Prelude.{◌≡◌, ℕ, ◌+◌, ◌<◌, ◌≤◌, ◌↔◌, ◌||◌, ◌&&◌, ◌==◌, not, true, false, length, IsTrue, IfSome, MatchOption};
+ghost use Rattle.std.specs.Prelude.{◌≡◌, ℕ, ◌+◌, ◌<◌, ◌≤◌, ◌↔◌, ◌||◌, ◌&&◌, ◌==◌, not, true, false, IsTrue, IfSome, MatchOption};
 ghost use Rattle.bank_tables.specs.Items.{has, IsLowest, IsLowestFrom, AreWords};
 ghost use Rattle.bank_tables.specs.Sums.{size_of};
 
@@ -113,7 +113,8 @@ impl ItemSet {
         true
     }
 
-    /// Whether each member is below the bound: with the number of items of a bank, whether all are items of that bank.
+    /// Whether each member is below the bound: with the number of items of a bank, whether all are
+    /// items of that bank.
     pub fn all_below(&self, bound: u16) -> bool
         ensures { IsTrue result ↔ ((i : ℕ) → IsTrue (has self.now i) → i < bound) }
     {

@@ -1,9 +1,10 @@
-//! What every crate needs of items: sets of items, lists, limits, the sides of the cap, and the item bank with its
-//! accessors.
+//! What every crate needs of items: sets of items, lists, limits, the sides of the cap, and the
+//! item bank with its accessors.
 //!
-//! Upward it promises that each set operation is the operation on members, that `Bank::of` takes exactly the rows whose
-//! numbers are within their bounds, else names their first fault, and that a bank's accessors give its numbers. Threads may
-//! share a bank and a set. It reads no text and calls no device. Only `List::push` takes memory.
+//! Upward it promises that each set operation is the operation on members, that `Bank::of` takes
+//! exactly the rows whose numbers are within their bounds, else names their first fault, and that a
+//! bank's accessors give its numbers. Threads may share a bank and a set. It reads no text and
+//! calls no device. Only `List::push` takes memory.
 #![tactic(auto)]
 
 mod bank;

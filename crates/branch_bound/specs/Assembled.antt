@@ -9,8 +9,8 @@ use Rattle.constraint_model.specs.Views.{problem_of}
 use Rattle.branch_bound.specs.declared.outcome.Outcome.{Outcome}
 use Rattle.branch_bound.specs.Assemblies.{IsShown, IsFirmOutcome, IsNoWorseThan}
 
--- a problem and a hint, the tree that was made for them within a node budget, the outcome, and whether the fallback search
--- made the tree
+-- a problem and a hint, the tree that was made for them within a node budget, the outcome, and
+-- whether the fallback search made the tree
 pub record Assembly : Type 0 where
   pub problem : Problem
   pub hint : Option (List ℕ)

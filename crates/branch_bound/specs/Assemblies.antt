@@ -12,7 +12,8 @@ use Rattle.certificate_model.specs.Verdicts.{IsVerdict}
 use Rattle.branch_bound.specs.declared.outcome.Outcome.{Outcome}
 use Rattle.branch_bound.specs.declared.outcome.Outcome.TheVariants.{Found, NoForm, NoneFound}
 
--- the tree decides nothing within the budget, which it spends: its verdict, with a form or none, is Partial
+-- the tree decides nothing within the budget, which it spends: its verdict, with a form or none, is
+-- Partial
 pub record IsUndecided (P : Problem) (X : Option Set) (T : ProofTree) (budget : ℕ) : Type 0 where
   pub open_leaves : ℕ
   pub verdict : IsVerdict P X T (Partial open_leaves)
@@ -36,8 +37,8 @@ IsNoWorseThan P None outcome = Unit {0}
 IsNoWorseThan P (Some X) (Found form proved) = Form P X → objective P X ≤ objective P (has form)
 IsNoWorseThan P (Some X) outcome = Form P X → ⊥
 
--- an assembly with a hint: its outcome is shown by its tree, no worse than start and hint, and Firm, and no path of the
--- tree goes on past a row that is impossible by counting
+-- an assembly with a hint: its outcome is shown by its tree, no worse than start and hint, and
+-- Firm, and no path of the tree goes on past a row that is impossible by counting
 pub record IsAssembly (P : Problem) (suggested : Option Set) (budget : ℕ) (T : ProofTree) (outcome : Outcome) : Type 0 where
   pub shown : IsShown P T budget outcome
   pub firm : IsFirmOutcome P outcome

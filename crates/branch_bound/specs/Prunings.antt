@@ -12,7 +12,8 @@ abbrev pub IsCountOf : Option ℕ → Node → Type 0
 IsCountOf (Some r) node = node ≡ Count r
 IsCountOf None node = Unit {0}
 
--- the subtree at place `at` ends before place `next`, and no path of it goes on past a row that is impossible by counting
+-- the subtree at place `at` ends before place `next`, and no path of it goes on past a row that is
+-- impossible by counting
 pub record PrunesTo (P : Problem) (T : ProofTree) (at : ℕ) (p : Path) (next : ℕ) : Type 0 where
   pub on : at < next
   pub within : next ≤ length T.nodes

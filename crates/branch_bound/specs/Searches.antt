@@ -16,8 +16,8 @@ use Rattle.branch_bound.specs.Comparing.{IsAsGood}
 abbrev pub plain_tree : List Node → ProofTree
 plain_tree nodes = record { vectors = [] ∷ []; nodes = nodes }
 
--- the node suits the path, with the form X or none: it is sound, as in a tree that spends its budget, and where a row is
--- impossible by counting the Count leaf of the lowest one
+-- the node suits the path, with the form X or none: it is sound, as in a tree that spends its
+-- budget, and where a row is impossible by counting the Count leaf of the lowest one
 pub record Suits (P : Problem) (X : Option Set) (p : Path) (node : Node) : Type 0 where
   pub sound : IsSound P X (plain_tree []) p node
   pub spent : IsSpentNode P p node
@@ -31,8 +31,8 @@ AllSuit P X [] (p ∷ paths) = ⊥
 AllSuit P X (node ∷ nodes) [] = ⊥
 AllSuit P X (node ∷ nodes) (p ∷ paths) = Suits P X p node × AllSuit P X nodes (below P p node ++ paths)
 
--- a search through the path, with the form B or none and k branches left, made these nodes, and left the form or none C
--- and m branches
+-- a search through the path, with the form B or none and k branches left, made these nodes, and
+-- left the form or none C and m branches
 pub record IsSearch (P : Problem) (p : Path) (B : Option Set) (k : ℕ) (C : Option Set) (m : ℕ) (nodes : List Node) : Type 0 where
   pub form : IsFormOrNone P C
   pub no_worse : IsAsGood P B C

@@ -54,9 +54,9 @@ fn shown_without(problem: &Problem, tree: &Tree, budget: u16) -> Option<Outcome>
     }
 }
 
-/// The outcome that the form or none and the tree of a search show, where they pass every test: the verdict of the separate
-/// checker on the tree gives it, the form is no worse than the start and the hint, and no path goes on past a row that is
-/// impossible by counting.
+/// The outcome that the form or none and the tree of a search show, where they pass every test: the
+/// verdict of the separate checker on the tree gives it, the form is no worse than the start and
+/// the hint, and no path goes on past a row that is impossible by counting.
 pub fn outcome_shown(
     problem: &Problem,
     hint: &Option<ItemSet>,

@@ -20,10 +20,10 @@ use proof_tree::{Memory, Tree, Vector};
 use std::alloc::Global;
 use std::marker::Model;
 
-/// An outcome, with the problem, the hint, the node budget and the tree that shows it. By its type, and so of every value: the
-/// tree shows the outcome by the rules that the separate checker tests; a form is firm, and no worse than the start and the
-/// hint where these are forms, and without a form neither is one; and no path of the tree goes on past a row that is
-/// impossible by counting.
+/// An outcome, with the problem, the hint, the node budget and the tree that shows it. By its type,
+/// and so of every value: the tree shows the outcome by the rules that the separate checker tests;
+/// a form is firm, and no worse than the start and the hint where these are forms, and without a
+/// form neither is one; and no path of the tree goes on past a row that is impossible by counting.
 #[derive(Debug, Drop)]
 pub struct Assembled<'a> {
     problem: Problem<'a>,
@@ -89,8 +89,8 @@ impl<'a> Assembled<'a> {
         self.outcome
     }
 
-    /// Whether the fallback search made the tree, since what the search gave failed a test. The search is written so that this
-    /// never happens, and a benchmark counts how often it did.
+    /// Whether the fallback search made the tree, since what the search gave failed a test. The
+    /// search is written so that this never happens, and a benchmark counts how often it did.
     pub fn used_fallback(&self) -> bool
         ensures { result ≡ self.now.used_fallback }
     {
@@ -155,7 +155,8 @@ fn make(
     made_by_fallback(alloc, problem, hint, budget)
 }
 
-/// Assembles a form of the problem within a budget of nodes, which is odd and at most 4,095; the hint may be a form.
+/// Assembles a form of the problem within a budget of nodes, which is odd and at most 4,095; the
+/// hint may be a form.
 pub fn assemble<'a>(
     alloc: Global,
     problem: Problem<'a>,
@@ -218,8 +219,8 @@ pub fn assemble_from<'a>(
     })
 }
 
-/// Assembles a form by the fallback search alone, with all that `assemble` promises: for tests, and for a caller who distrusts
-/// the search.
+/// Assembles a form by the fallback search alone, with all that `assemble` promises: for tests, and
+/// for a caller who distrusts the search.
 pub fn assemble_by_fallback<'a>(
     alloc: Global,
     problem: Problem<'a>,

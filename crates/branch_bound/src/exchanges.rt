@@ -1,6 +1,6 @@
 //! Exchanges of one item, which make a form firm.
 
-ghost use Rattle.std.specs.Prelude.{◌≡◌, ℕ, ◌≤◌, ◌<◌, ◌&&◌, ◌||◌, ◌==◌, not, IsTrue};
+ghost use Rattle.std.specs.Prelude.{◌≡◌, ℕ, ◌≤◌, ◌<◌, ◌&&◌, IsTrue};
 ghost use Rattle.std.specs.Option.{option_map};
 ghost use Rattle.bank_tables.specs.Items.{has};
 ghost use Rattle.form_model.specs.Forms.{Form, Firm, objective};
@@ -20,7 +20,8 @@ fn exchange(form: &ItemSet, out: u16, item: u16) -> ItemSet
     form.without(out).with(item)
 }
 
-/// A better form that has one item in for the item out; none where no such exchange betters the form.
+/// A better form that has one item in for the item out; none where no such exchange betters the
+/// form.
 fn exchange_of(problem: &Problem, form: &ItemSet, out: u16) -> Option<ItemSet>
     requires well_made { IsWellMade (problem_of problem.now) }
     requires form { Form (problem_of problem.now) (has form.now) }

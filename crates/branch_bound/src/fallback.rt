@@ -1,7 +1,7 @@
-//! The fallback search: depth first, with counting, the plain bound and nothing else. It answers where what the search gave
-//! fails a test.
+//! The fallback search: depth first, with counting, the plain bound and nothing else. It answers
+//! where what the search gave fails a test.
 
-ghost use Rattle.std.specs.Prelude.{◌≡◌, ℕ, ◌+◌, ◌*◌, ◌<◌, ◌↔◌, IsTrue, IsFalse, OnOk, IfOk, [], None, pos, false};
+ghost use Rattle.std.specs.Prelude.{◌≡◌, ℕ, ◌+◌, ◌*◌, ◌<◌, IsTrue, IsFalse, OnOk, IfOk, [], None, pos, false};
 ghost use Rattle.std.specs.Option.{option_map};
 ghost use Rattle.bank_tables.specs.Items.{has};
 ghost use Rattle.bank_tables.specs.Validity.{HoldsItems};
@@ -31,7 +31,8 @@ use lagrange_bound::{Cut, bound, impossible};
 use proof_tree::{Memory, Tree, Vector, has_open_leaf};
 use std::alloc::Global;
 
-/// What the search keeps: the best form known, the branches that the node budget leaves, and the nodes so far.
+/// What the search keeps: the best form known, the branches that the node budget leaves, and the
+/// nodes so far.
 #[derive(Drop)]
 struct SearchState {
     best: Option<ItemSet>,
@@ -126,8 +127,8 @@ fn leaf(problem: &Problem, plain: &Vector, cut: &Cut, best: &mut Option<ItemSet>
     None
 }
 
-/// Searches the subtree of a path. A branch is used up by each branch made; once none is left, what isn't settled is
-/// left Open.
+/// Searches the subtree of a path. A branch is used up by each branch made; once none is left, what
+/// isn't settled is left Open.
 fn search(
     problem: &Problem,
     plain: &Vector,
@@ -200,9 +201,9 @@ pub struct Fallback {
     pub outcome: Outcome,
 }
 
-/// Searches depth first within a budget of nodes: at each node the Count leaf of the lowest impossible row, else a Whole
-/// leaf where one set is left, else a Bound leaf where the plain bound is too low, else a branch, or an Open leaf once the
-/// budget leaves no branch.
+/// Searches depth first within a budget of nodes: at each node the Count leaf of the lowest
+/// impossible row, else a Whole leaf where one set is left, else a Bound leaf where the plain bound
+/// is too low, else a branch, or an Open leaf once the budget leaves no branch.
 pub fn search_fallback(
     alloc: Global,
     problem: &Problem,

@@ -1,6 +1,6 @@
 //! Whether a tree is pruned by counting.
 
-ghost use Rattle.std.specs.Prelude.{◌≡◌, ℕ, suc, ◌↔◌, IsTrue, drop};
+ghost use Rattle.std.specs.Prelude.{ℕ, suc, ◌↔◌, IsTrue, drop};
 ghost use Rattle.certificate_model.specs.Paths.{Path};
 ghost use Rattle.certificate_model.specs.ProofTrees.{AreTrees};
 ghost use Rattle.certificate_model.specs.Pruning.{IsPruned};
@@ -8,7 +8,6 @@ ghost use Rattle.form_model.specs.Validity.{IsWellMade};
 ghost use Rattle.constraint_model.specs.Views.{problem_of};
 ghost use Rattle.lagrange_bound.specs.Cuts.{IsCut, IsCutOf};
 ghost use Rattle.branch_bound.specs.Prunings.{IsCountOf, IsPruning};
-ghost use Rattle.branch_bound.specs.Searches.{IsBranchOn};
 
 use crate::branching::{is_branch_on, side};
 use constraint_model::Problem;
@@ -54,8 +53,8 @@ fn pruned_to(problem: &Problem, tree: &Tree, at: u16, cut: &Cut) -> Option<u16>
     pruned_to(problem, tree, next, &right)
 }
 
-/// Whether no path of a tree goes on past a row that is impossible by counting: there it ends in the Count leaf of the
-/// lowest such row.
+/// Whether no path of a tree goes on past a row that is impossible by counting: there it ends in
+/// the Count leaf of the lowest such row.
 pub fn is_pruned(problem: &Problem, tree: &Tree) -> bool
     requires { IsWellMade (problem_of problem.now) }
     ensures { IsTrue result → IsPruned (problem_of problem.now) tree.now }

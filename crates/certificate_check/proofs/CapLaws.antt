@@ -1,4 +1,5 @@
--- The cap of the code is the cap of the vector, and its arrays hold what the cap makes of the weights.
+-- The cap of the code is the cap of the vector, and its arrays hold what the cap makes of the
+-- weights.
 use Rattle.std.proofs.Common.{◌≡◌, ℕ, zero, suc, ◌+◌, ◌<◌, ◌≤◌, inl, inr, Bool, true, false, cond, not, ◌||◌, ◌==◌, List, [], ◌∷◌, ℤ, pos, ◌-ℤ◌, Option, Some, None, refl, sym, ap, ◌∙◌, arith}
 use Rattle.std.specs.Prelude.{replicate}
 use Rattle.std.proofs.lemmas.Int.{ints}

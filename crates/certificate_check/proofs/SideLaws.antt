@@ -23,7 +23,8 @@ multiplier_high from k (pair ∷ pairs) is =
       | inr (e, other) ↦ rw e (multiplier_high (pair.0 + 1) k pairs is.3)
     ]
 
--- the sides below `from` have their multipliers, and what is left of the vector names those of the others
+-- the sides below `from` have their multipliers, and what is left of the vector names those of the
+-- others
 pub record IsRead (v left : Multipliers) (sides : List ℕ) (from : ℕ) : Type 0 where
   pub vector : IsVector from left
   pub below : (k : ℕ) → k < from → get_or sides k 0 ≡ multiplier v k

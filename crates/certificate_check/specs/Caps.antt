@@ -12,7 +12,8 @@ use Rattle.certificate_model.specs.ClosedForm.{capped_weight, excess_of_items}
 abbrev pub has_cap : (ℕ → ℕ) → Bool
 has_cap M = not (M cap_side == 0) || not (M (cap_side + 1) == 0)
 
--- the arrays hold the weight of each item under the cap, and what the items of each stimulus have above it
+-- the arrays hold the weight of each item under the cap, and what the items of each stimulus have
+-- above it
 pub record AreCapped (P : Problem) (p : Path) (v : Multipliers) (ray : Bool) (weights excesses : List ℤ) : Type 0 where
   pub weights_are : (i : ℕ) → i < size P.bank → at weights i ≡ capped_weight P p v ray i
   pub excesses_are : (k : ℕ) → k < stimuli_of P.bank → at excesses k ≡ excess_of_items P p v ray (suc k)

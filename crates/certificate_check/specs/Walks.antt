@@ -10,7 +10,8 @@ use Rattle.certificate_model.specs.Verdicts.{GivesFrom}
 use Rattle.certificate_check.specs.declared.walk.Walked.{Walked}
 use Rattle.certificate_check.specs.declared.walk.Unsound.{Unsound}
 
--- the subtree at place `at` ends before place `next` with `after` Open leaves so far, and gives what the rest gives
+-- the subtree at place `at` ends before place `next` with `after` Open leaves so far, and gives
+-- what the rest gives
 pub record Passes (P : Problem) (X : Option Set) (T : ProofTree) (at met : ℕ) (p : Path) (next after : ℕ) : Type 0 where
   pub on : at < next
   pub within : next ≤ length T.nodes

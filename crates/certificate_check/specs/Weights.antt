@@ -36,6 +36,7 @@ maximum_top = 4909983772838985728
 abbrev pub weight_up_to : Problem → (ℕ → ℕ) → Bool → ℕ → ℕ → ℤ
 weight_up_to P M ray n i = pos (weight P ray i) +ℤ (total_z n (item_share P M i) +ℤ price_of_stimulus P M (stimulus P.bank i))
 
--- what an item has above the cap in an array of weights, where it is a free item of an open stimulus
+-- what an item has above the cap in an array of weights, where it is a free item of an open
+-- stimulus
 abbrev pub excess_at : Problem → Path → (ℕ → ℕ) → List ℤ → ℕ → ℤ
 excess_at P p M weights i = if is_linked P p i then excess_over (Some (price M cap_side)) (at weights i) else pos 0

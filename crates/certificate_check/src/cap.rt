@@ -1,6 +1,7 @@
-//! The cap: what a free item of an open stimulus weighs at most. What it has above goes to its stimulus.
+//! The cap: what a free item of an open stimulus weighs at most. What it has above goes to its
+//! stimulus.
 
-ghost use Rattle.std.specs.Prelude.{◌≡◌, ℕ, suc, ◌+◌, ◌<◌, ◌==◌, cond, ◌+ℤ◌, ◌-ℤ◌, ◌≤ℤ◌, pos, Some, slice_index};
+ghost use Rattle.std.specs.Prelude.{◌≡◌, ℕ, suc, ◌+◌, ◌<◌, ◌==◌, cond, ◌+ℤ◌, ◌-ℤ◌, pos, Some, slice_index};
 ghost use Rattle.bank_tables.specs.Sums.{sum_in_z};
 ghost use Rattle.bank_tables.specs.Tables.{size, stimulus};
 ghost use Rattle.certificate_model.specs.Relaxed.{cap_side, excess_over, is_linked};
@@ -138,7 +139,8 @@ fn add_excess(excesses: &mut [i64; 64], which: u8, by: i64)
     }
 }
 
-/// What the free items of each open stimulus have above the cap; that of stimulus `s` is at `s - 1`.
+/// What the free items of each open stimulus have above the cap; that of stimulus `s` is at
+/// `s - 1`.
 pub fn excesses_of(
     problem: &Problem,
     standing: &Standing,

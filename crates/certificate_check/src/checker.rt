@@ -54,7 +54,8 @@ fn verdict(problem: &Problem, form: &Option<ItemSet>, tree: &Tree) -> Verdict
     }
 }
 
-/// What a proof tree shows, with a form or none: `Optimal`, no set of items is a better form; `NoForm`, no set is a form.
+/// What a proof tree shows, with a form or none: `Optimal`, no set of items is a better form;
+/// `NoForm`, no set is a form.
 ///
 /// Takes no memory.
 pub fn check(problem: &Problem, form: Option<&ItemSet>, tree: &Tree) -> Verdict

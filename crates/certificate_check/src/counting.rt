@@ -29,7 +29,8 @@ fn length_impossible(problem: &Problem, standing: &Standing) -> bool
     length < taken || may_hold < length
 }
 
-/// Whether what is taken exceeds the upper bound of a row, or what is taken or free is below its lower bound.
+/// Whether what is taken exceeds the upper bound of a row, or what is taken or free is below its
+/// lower bound.
 fn row_impossible(problem: &Problem, standing: &Standing, row: &Row) -> bool
     requires row { IsRow problem.now.bank.now row.now }
     requires standing { IsStanding (problem_of problem.now) standing.now }
@@ -69,7 +70,8 @@ fn stimulus_impossible(problem: &Problem, standing: &Standing, which: u8) -> boo
     stimulus_misses(problem, standing, which, least, most)
 }
 
-/// Whether a row, by number, is impossible by counting: 0 is the length, then come the rows of the plan and the stimuli.
+/// Whether a row, by number, is impossible by counting: 0 is the length, then come the rows of the
+/// plan and the stimuli.
 pub fn is_impossible(problem: &Problem, standing: &Standing, row: u8) -> bool
     requires well_made { IsWellMade (problem_of problem.now) }
     requires standing { IsStanding (problem_of problem.now) standing.now }

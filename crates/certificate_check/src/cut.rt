@@ -4,7 +4,7 @@ ghost use Rattle.std.specs.Prelude.{◌≡◌, ℕ, ◌<◌, ◌&&◌, ◌==◌}
 ghost use Rattle.bank_tables.specs.Items.{has};
 ghost use Rattle.bank_tables.specs.Tables.{stimulus};
 ghost use Rattle.bank_tables.specs.Validity.{HoldsItems};
-ghost use Rattle.certificate_model.specs.Paths.{root, with_item, with_stimulus};
+ghost use Rattle.certificate_model.specs.Paths.{root, with_item};
 ghost use Rattle.constraint_model.specs.Views.{problem_of};
 ghost use Rattle.certificate_check.specs.Cuts.{path_of};
 

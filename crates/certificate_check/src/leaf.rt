@@ -1,6 +1,6 @@
 //! The leaves that close a path by a relaxed maximum.
 
-ghost use Rattle.std.specs.Prelude.{◌≡◌, ◌+◌, ◌*◌, ◌<◌, ◌≤◌, ◌↔◌, All, IsTrue, false, pos};
+ghost use Rattle.std.specs.Prelude.{◌≡◌, ◌+◌, ◌*◌, ◌<◌, ◌↔◌, IsTrue, false, pos};
 ghost use Rattle.std.specs.Option.{option_map};
 ghost use Rattle.bank_tables.specs.Items.{has};
 ghost use Rattle.form_model.specs.Forms.{objective};

@@ -36,8 +36,8 @@ fn lifted(weight: i64, excess: i64) -> i64
     if sum > 0 { sum } else { 0 }
 }
 
-/// What a stimulus adds, where its items have so much above the cap: its weight if it is chosen; if it is open, the greater
-/// of 0 and its weight with that.
+/// What a stimulus adds, where its items have so much above the cap: its weight if it is chosen; if
+/// it is open, the greater of 0 and its weight with that.
 fn gain_of_stimulus(
     problem: &Problem,
     standing: &Standing,
@@ -90,7 +90,8 @@ fn gains(problem: &Problem, standing: &Standing, sides: &[u32; 386], excesses: &
     sum
 }
 
-/// The constant, the weights of the items taken and of the greatest free ones, and what the stimuli add.
+/// The constant, the weights of the items taken and of the greatest free ones, and what the stimuli
+/// add.
 fn value_with(
     problem: &Problem,
     standing: &Standing,
@@ -121,8 +122,9 @@ fn value_with(
     rows_constant(problem, sides) + ((taken + free) + gains(problem, standing, sides, excesses))
 }
 
-/// The relaxed maximum of a vector that has a cap, from the weights of its items without the cap. A function clears its arrays
-/// when it is called; these are here, so that a vector without a cap does not pay for them.
+/// The relaxed maximum of a vector that has a cap, from the weights of its items without the cap. A
+/// function clears its arrays when it is called; these are here, so that a vector without a cap
+/// does not pay for them.
 fn capped_maximum(
     problem: &Problem,
     standing: &Standing,

@@ -56,7 +56,8 @@ fn spent_to(
     }
 }
 
-/// Whether a tree spends its node budget: it has that many nodes, and its Open leaves are what a search depth first left.
+/// Whether a tree spends its node budget: it has that many nodes, and its Open leaves are what a
+/// search depth first left.
 ///
 /// Takes no memory.
 pub fn spent(problem: &Problem, tree: &Tree, budget: u16) -> bool

@@ -12,7 +12,8 @@ use bank_tables::ItemSet;
 /// A block has so many items.
 const BLOCK: u16 = 16;
 
-/// The sum of the weights of the first n items that are in the set. The members alone are looked at.
+/// The sum of the weights of the first n items that are in the set. The members alone are looked
+/// at.
 pub fn sum_of(weights: &[i64; 512], n: u16, items: &ItemSet) -> i64
     requires few { n ≤ 512 }
     requires within { (i : ℕ) → i < n → IsWithin item_top (at weights.now i) }
@@ -113,7 +114,8 @@ fn first_leader(weights: &[i64; 512], n: u16, leaders: &[Option<u16>; 32]) -> Op
 
 /// Of the first n items so many free ones of the greatest weight.
 ///
-/// The items are in blocks, and each has a leader, so that a round looks at the leaders and at one block.
+/// The items are in blocks, and each has a leader, so that a round looks at the leaders and at one
+/// block.
 pub fn top_of(weights: &[i64; 512], n: u16, free: &ItemSet, k: u32) -> ItemSet
     requires few { n ≤ 512 }
     requires enough { k ≤ count_in n (has free.now) (λ _. true) }

@@ -1,6 +1,6 @@
 //! Paths that neither counting nor the plain bound settles.
 
-ghost use Rattle.std.specs.Prelude.{◌≡◌, ◌↔◌, IsTrue};
+ghost use Rattle.std.specs.Prelude.{◌↔◌, IsTrue};
 ghost use Rattle.std.specs.Option.{option_map};
 ghost use Rattle.bank_tables.specs.Items.{has};
 ghost use Rattle.certificate_model.specs.Spending.{PlainBoundExceeds, IsUnresolved, IsSpentNode};
@@ -73,7 +73,8 @@ fn is_unresolved(problem: &Problem, start: &Option<ItemSet>, standing: &Standing
     is_possible(problem, standing) && exceeds_form(problem, start, standing)
 }
 
-/// Whether a node is as in a spent tree: a branch on what is free or open, and on it and on an Open leaf the path unresolved.
+/// Whether a node is as in a spent tree: a branch on what is free or open, and on it and on an Open
+/// leaf the path unresolved.
 #[inline(never)]
 pub fn is_spent_node(
     problem: &Problem,

@@ -89,7 +89,8 @@ fn net_of(low: u32, high: u32) -> i64
     low as i64 - high as i64
 }
 
-/// Adds to the weight of each item in a set the net of two multipliers. The members alone are looked at.
+/// Adds to the weight of each item in a set the net of two multipliers. The members alone are
+/// looked at.
 fn add_to_members(bank: &Bank, set: &ItemSet, low: u32, high: u32, weights: &mut [i64])
     requires set { HoldsItems bank.now (has set.now) }
     requires low { low ≤ 16777216 }

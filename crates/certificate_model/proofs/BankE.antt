@@ -1,4 +1,5 @@
--- Five items of which the three best are enemies of one another: no multipliers close the root, a tree of branches does.
+-- Five items of which the three best are enemies of one another: no multipliers close the root, a
+-- tree of branches does.
 use Rattle.std.proofs.Common.{inl, inr, false, [], ◌∷◌, ℤ, pos, ◌≤ℤ◌, Some, refl, sym, arith}
 use Rattle.std.proofs.lemmas.Int.{ints}
 use Rattle.std.proofs.Math.Dec.{lit≤}
@@ -29,7 +30,8 @@ pub form_24 : Form problem_e (these (2 ∷ 4 ∷ []))
 unfolding problem_e bank_e item_e plan_e has
 form_24 = form_is problem_e (these (2 ∷ 4 ∷ [])) (these_below 5 (2 ∷ 4 ∷ []) refl) (λ i e. absurd (cc)) refl
 
--- ---- a tree of branches on items proves {0, 3} best: the enemies end in Count leaves, the other sets in Whole leaves
+-- ---- a tree of branches on items proves {0, 3} best: the enemies end in Count leaves, the other
+-- sets in Whole leaves
 unfoldable pub tree_e : ProofTree
 tree_e =
     record {
@@ -119,7 +121,8 @@ best_e = optimal_is_best problem_e (these (0 ∷ 3 ∷ [])) tree_e optimal_e
 firm_03 : Firm problem_e (these (0 ∷ 3 ∷ []))
 firm_03 = record { form = best_e.form; exchanges = λ Y form others. best_e.greatest Y form }
 
--- ---- no multipliers bring the relaxed maximum at the root below 14.5 times 256: half of {0, 1} and half of {2, 3}
+-- ---- no multipliers bring the relaxed maximum at the root below 14.5 times 256: half of {0, 1}
+-- and half of {2, 3}
 pair_01 : IsRelaxedPair problem_e (root problem_e) (these (0 ∷ 1 ∷ [])) (λ _. false)
 unfolding problem_e bank_e item_e plan_e
 pair_01 =

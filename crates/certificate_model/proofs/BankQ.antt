@@ -1,4 +1,5 @@
--- Four items of ten words each, and room for fifteen words in a test of two: a ray shows that there is no form.
+-- Four items of ten words each, and room for fifteen words in a test of two: a ray shows that there
+-- is no form.
 use Rattle.std.proofs.Common.{◌≡◌, ℕ, zero, suc, ◌≤◌, ◌<◌, inl, true, false, [], ◌∷◌, length, negsuc, None, refl, arith}
 use Rattle.std.specs.Prelude.{All}
 use Rattle.std.proofs.Math.Dec.{lit≤}

@@ -39,7 +39,8 @@ module _ (P : Problem) (p : Path) (v : Multipliers) (ray : Bool) (T : Set) where
   abbrev is_low : ℤ → ℕ → Bool
   is_low t i = not (is_free P p i && not (T i)) || int_le (capped_weight P p v ray i) t
 
-  -- T are free items of the greatest capped weights that fill the test, t is a threshold between them and the rest
+  -- T are free items of the greatest capped weights that fill the test, t is a threshold between
+  -- them and the rest
   abbrev pub fill_test : ℤ → Bool
   fill_test t = (size_in P.bank p.taken + size_in P.bank T == P.plan.length) && all_below (size P.bank) (λ i. is_high t i && is_low t i)
 

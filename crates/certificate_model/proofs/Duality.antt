@@ -61,7 +61,8 @@ excess_nonneg : (cap : Option ℤ) (weight : ℤ) → pos 0 ≤ℤ excess_over c
 excess_nonneg None weight = omega (arith, ints)
 excess_nonneg (Some cap) weight = elim (either (int_lt (weight -ℤ cap) (pos 0))) [ inl low ↦ rw low (omega (arith, ints)) | inr high ↦ rw high (omega (arith, ints)) ]
 
--- a multiplier of at least 0 times the slack of a link, where the item is chosen only if its stimulus is
+-- a multiplier of at least 0 times the slack of a link, where the item is chosen only if its
+-- stimulus is
 slack_nonneg : (m : ℤ) (z x : Bool) → pos 0 ≤ℤ m → (x ≡ true → z ≡ true) → pos 0 ≤ℤ (m *ℤ (pos (cond z 1 0) -ℤ pos (cond x 1 0)))
 slack_nonneg m true true h k = omega (arith, ints)
 slack_nonneg m true false h k = omega (arith, ints)

@@ -50,7 +50,8 @@ stimuli_counted : (impossible (taking 0 at_root) 4 ≡ false) × (impossible (ta
 unfolding at_root problem_r bank_r item_r plan_r is_impossible has
 stimuli_counted = (refl, refl, refl, refl)
 
--- the stimuli, rows 5 and 6: three in exceed two; once stimulus 1 is chosen, one in or free is fewer than two; not before
+-- the stimuli, rows 5 and 6: three in exceed two; once stimulus 1 is chosen, one in or free is
+-- fewer than two; not before
 stimulus_counted : (impossible (taking 0 (taking 1 (taking 2 at_root))) 5 ≡ true) × (impossible (taking 0 (dropping 1 (dropping 2 at_root))) 5 ≡ true) × (impossible (dropping 0 (dropping 1 at_root)) 5 ≡ false) × (impossible (with_stimulus problem_r (dropping 0 (dropping 1 at_root)) 1 true) 5 ≡ true) × (impossible (taking 5 at_root) 6 ≡ false)
 unfolding at_root problem_r bank_r item_r plan_r is_impossible has
 stimulus_counted = (refl, refl, refl, refl, refl)
@@ -94,7 +95,8 @@ left_to_decide : (is_free problem_r at_root 6 ≡ false) × (undecided problem_r
 unfolding at_root problem_r bank_r item_r
 left_to_decide = (refl, refl, refl, refl)
 
--- ---- the only candidate: none at the root; the three in; the three in or free; where nothing is free; not with four in and items free
+-- ---- the only candidate: none at the root; the three in; the three in or free; where nothing is
+-- free; not with four in and items free
 candidates : (is_some (only_candidate problem_r at_root) ≡ false) × (is_some (only_candidate problem_r (taking 0 (taking 1 (taking 2 at_root)))) ≡ true) × (is_some (only_candidate problem_r (dropping 0 (dropping 1 (dropping 2 at_root)))) ≡ true) × (is_some (only_candidate problem_r (taking 0 (taking 1 (taking 2 (taking 3 at_root))))) ≡ false) × (is_some (only_candidate problem_r (dropping 5 (dropping 4 (taking 0 (taking 1 (taking 2 (taking 3 at_root))))))) ≡ true)
 unfolding at_root problem_r bank_r item_r plan_r
 candidates = (refl, refl, refl, refl, refl)
@@ -104,25 +106,28 @@ candidate_members : (only_candidate problem_r (taking 0 (taking 1 (taking 2 at_r
 unfolding at_root problem_r bank_r item_r plan_r
 candidate_members = (refl, refl)
 
--- a candidate that is a form, but lacks the stimulus that a left branch chose, is settled: it belongs on the right side
+-- a candidate that is a form, but lacks the stimulus that a left branch chose, is settled: it
+-- belongs on the right side
 lacks_stimulus_2 : (let p = taking 0 (taking 1 (taking 3 (with_stimulus problem_r at_root 2 true))) in CandidateIsSettled problem_r None p (only_candidate problem_r p))
 unfolding at_root problem_r bank_r item_r plan_r
 lacks_stimulus_2 = inr (inl (record { missing = 2; first = lit≤ tt; last = lit≤ tt; chosen = refl; unused = refl }))
 
 -- ---- the Lagrangian, every side at once
--- items 0, 1 and 3, stimulus 1: 256 times 20 is 5,120. The slacks, low and high, are: Count 1 and 0; Quantity 10 and 30;
--- Enemies 1 and 0; Stimuli 0 and 0; stimulus 1: 0 and 0; stimulus 2, not chosen: 0 and 0
+-- items 0, 1 and 3, stimulus 1: 256 times 20 is 5,120. The slacks, low and high, are: Count 1 and
+-- 0; Quantity 10 and 30; Enemies 1 and 0; Stimuli 0 and 0; stimulus 1: 0 and 0; stimulus 2, not
+-- chosen: 0 and 0
 lagrangian_r : lagrangian problem_r at_root ((0, 1) ∷ (1, 2) ∷ (2, 3) ∷ (3, 5) ∷ (4, 7) ∷ (5, 11) ∷ (6, 13) ∷ (7, 17) ∷ (8, 19) ∷ (9, 23) ∷ (10, 29) ∷ (11, 31) ∷ []) false (these (0 ∷ 1 ∷ 3 ∷ [])) (λ s. s == 1) ≡ pos 5308
 unfolding problem_r bank_r item_r plan_r has lagrangian lagrangian_without_links link_multiplier at_root
 lagrangian_r = refl
 
--- items 0, 4 and 5, both stimuli: a ray has no objective. The slacks are: Count 0 and 1; Quantity 60 and -20;
--- Enemies 1 and 0; Stimuli 1 and -1; stimulus 1: -1 and 1; stimulus 2: 0 and 0
+-- items 0, 4 and 5, both stimuli: a ray has no objective. The slacks are: Count 0 and 1; Quantity
+-- 60 and -20; Enemies 1 and 0; Stimuli 1 and -1; stimulus 1: -1 and 1; stimulus 2: 0 and 0
 ray_r : lagrangian problem_r at_root ((0, 1) ∷ (1, 2) ∷ (2, 3) ∷ (3, 5) ∷ (4, 7) ∷ (5, 11) ∷ (6, 13) ∷ (7, 17) ∷ (8, 19) ∷ (9, 23) ∷ (10, 29) ∷ (11, 31) ∷ []) true (these (0 ∷ 4 ∷ 5 ∷ [])) (λ s. s == 1 || s == 2) ≡ pos 89
 unfolding problem_r bank_r item_r plan_r has lagrangian lagrangian_without_links link_multiplier at_root
 ray_r = refl
 
--- items 0, 4 and 5 with no stimulus chosen: Stimuli -1 and 1; stimulus 1: 1 and -1; stimulus 2: 1 and -1
+-- items 0, 4 and 5 with no stimulus chosen: Stimuli -1 and 1; stimulus 1: 1 and -1; stimulus 2: 1
+-- and -1
 dropped_r : lagrangian problem_r at_root ((6, 13) ∷ (7, 17) ∷ (8, 19) ∷ (9, 23) ∷ (10, 29) ∷ (11, 31) ∷ []) true (these (0 ∷ 4 ∷ 5 ∷ [])) (λ _. false) ≡ negsuc 1
 unfolding problem_r bank_r item_r plan_r has lagrangian lagrangian_without_links link_multiplier at_root
 dropped_r = refl

@@ -26,7 +26,8 @@ sum_in_z-shift (suc n) X f t =
     let rest = sum_in_z-shift n X f t in
     elim (either (X n)) [ inl in_X ↦ rw in_X (omega (arith, ints)) | inr not_in_X ↦ rw not_in_X (omega (arith, ints)) ]
 
--- of the sets of a size within F, one whose members are all at least t, with none above t left, has the greatest sum
+-- of the sets of a size within F, one whose members are all at least t, with none above t left, has
+-- the greatest sum
 pub greatest_of_size : (n : ℕ) (F T X : Set) (f : ℕ → ℤ) (t : ℤ)
     → ((i : ℕ) → i < n → T i ≡ true → t ≤ℤ f i)
     → ((i : ℕ) → i < n → F i ≡ true → T i ≡ false → f i ≤ℤ t)
@@ -84,7 +85,8 @@ count_in-split (suc n) X A B h =
 
 -- ---- the items that reach it
 module _ (P : Problem) (p : Path) (v : Multipliers) (ray : Bool) where
-  -- T are the free items of greatest weight that fill the length, t a threshold between them and the rest
+  -- T are the free items of greatest weight that fill the length, t a threshold between them and
+  -- the rest
   pub record IsTop (T : Set) (t : ℤ) : Type 0 where
     pub free : (i : ℕ) → T i ≡ true → is_free P p i ≡ true
     pub fills : size_in P.bank p.taken + size_in P.bank T ≡ P.plan.length
@@ -98,7 +100,8 @@ module _ (P : Problem) (p : Path) (v : Multipliers) (ray : Bool) where
   unfoldable pub best_stimuli : Set
   best_stimuli s = is_chosen P p s || (is_open P p s && int_le (pos 0) ((reduced P p v ray).stimulus s))
 
-  -- the constant, the weights of the items taken and of the greatest free ones, and what the stimuli add
+  -- the constant, the weights of the items taken and of the greatest free ones, and what the
+  -- stimuli add
   unfoldable pub relaxed_by : Set → ℤ
   relaxed_by T =
       (reduced P p v ray).constant

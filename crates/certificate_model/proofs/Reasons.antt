@@ -48,7 +48,8 @@ determined_stimulus : IsVerdict problem_a None (leaf (BranchStimulus 1)) (Bad 0 
 unfolding leaf problem_a bank_a item_a
 determined_stimulus = inl (tt, inr (Determined, (λ is. let last = is.last in omega arith), refl))
 
--- ---- NoVector and NoSide come before the other reasons: here there is no form to compare with either
+-- ---- NoVector and NoSide come before the other reasons: here there is no form to compare with
+-- either
 no_vector : IsVerdict problem_a None (record (one_bound []) { nodes = Bound 1 ∷ [] }) (Bad 0 NoVector)
 unfolding one_bound
 no_vector = inl (tt, inr (NoVector, lit≤ tt, refl))
@@ -121,7 +122,8 @@ not_whole : IsVerdict problem_a None (leaf Whole) (Bad 0 NotWhole)
 unfolding leaf problem_a bank_a item_a plan_of_rows plan_a
 not_whole = inl (tt, inr (NotWhole, refl, refl))
 
--- ---- Better: the one set left, items 0 and 3, is better than items 2 and 4; and it is a form where there was none
+-- ---- Better: the one set left, items 0 and 3, is better than items 2 and 4; and it is a form
+-- where there was none
 unfoldable pub to_03 : ProofTree
 to_03 = record { vectors = []; nodes = BranchItem 0 ∷ BranchItem 3 ∷ Whole ∷ Open ∷ Open ∷ [] }
 

@@ -15,7 +15,8 @@ use Rattle.form_model.proofs.BankA.{item_a, bank_a, plan_of_rows, plan_a, proble
 use Rattle.certificate_model.proofs.StepsOfA.{problem_three, first_impossible}
 use Rattle.certificate_model.proofs.BankE.{one_open}
 
--- ---- two branches to the left, then three Open leaves: at a budget of five nodes the tree is spent
+-- ---- two branches to the left, then three Open leaves: at a budget of five nodes the tree is
+-- spent
 unfoldable pub left_first : ProofTree
 left_first = record { vectors = []; nodes = BranchItem 3 ∷ BranchItem 4 ∷ Open ∷ Open ∷ Open ∷ [] }
 

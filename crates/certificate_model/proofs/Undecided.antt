@@ -1,4 +1,5 @@
--- Each branch decides an item or a stimulus: so the Open leaves of a spent tree are few, and a tree with an Open leaf is small.
+-- Each branch decides an item or a stimulus: so the Open leaves of a spent tree are few, and a tree
+-- with an Open leaf is small.
 use Rattle.std.proofs.Common.{◌≡◌, ℕ, zero, suc, ◌+◌, ◌^◌, ◌≤◌, ◌<◌, ◌⊎◌, inl, inr, Bool, true, false, cond, not, ◌&&◌, ◌||◌, ◌==◌, max, List, [], ◌∷◌, ◌++◌, length, refl, sym, ap, ◌∙◌, add-one, arith, nat_lt, Option, Some, None}
 use Rattle.std.proofs.lemmas.Bool.{ltb-true, and_parts, and_from, not-true, eq-eqb}
 use Rattle.std.proofs.Math.Bool.{true≢false}

@@ -2,8 +2,8 @@
 
 ghost use Rattle.certificate_model.specs.Laws.{WeakDuality, NoCapNoLinks, RayIsNotNegative, CountingIsSound, OptimalIsBest, NoFormIsNone, OneVerdict, PartialCountsOpen, PartialIsSmall, FewOpen, ClosedFormIsMaximum, BetteringKeeps, SomeMaximum, OneMaximum, MaximumMeansPossible};
 
-/// No form on a path exceeds the relaxed maximum there, whatever the multipliers (weak duality of Lagrangian
-/// relaxation; Geoffrion, Lagrangean Relaxation for Integer Programming, 1974).
+/// No form on a path exceeds the relaxed maximum there, whatever the multipliers (weak duality of
+/// Lagrangian relaxation; Geoffrion, Lagrangean Relaxation for Integer Programming, 1974).
 pub fn weak_duality()
     ensures { WeakDuality }
 {}
@@ -43,8 +43,8 @@ pub fn partial_counts_open()
     ensures { PartialCountsOpen }
 {}
 
-/// A tree whose verdict is Partial is smaller than a full binary tree over the free items and open stimuli of the root:
-/// so a search with that many nodes ends with a proof.
+/// A tree whose verdict is Partial is smaller than a full binary tree over the free items and open
+/// stimuli of the root: so a search with that many nodes ends with a proof.
 pub fn partial_is_small()
     ensures { PartialIsSmall }
 {}
@@ -54,7 +54,8 @@ pub fn few_open()
     ensures { FewOpen }
 {}
 
-/// The relaxed maximum is had by the greatest reduced weights: no other relaxed pair has a greater Lagrangian.
+/// The relaxed maximum is had by the greatest reduced weights: no other relaxed pair has a greater
+/// Lagrangian.
 pub fn closed_form_is_maximum()
     ensures { ClosedFormIsMaximum }
 {}

@@ -1,5 +1,5 @@
--- What clap makes of words of which none begins with a hyphen: its one argument has all of them, and
--- no test of it fails.
+-- What clap makes of words of which none begins with a hyphen: its one argument has all of them,
+-- and no test of it fails.
 use Rattle.std.proofs.Common.{◌≡◌, ◌≢◌, ℕ, List, [], ◌∷◌, ◌++◌, Bool, true, false, Some, None, refl, sym, ap, ◌∙◌, codes, length, ◌||◌, ◌==◌, map, append_assoc, option_and_then, fold, subst, is_some}
 use Rattle.std.proofs.lemmas.Bool.{ne_eqb, eqb-false, cond-false, and_left, and_from, or_right, or_parts}
 use Rattle.std.specs.Str.{bytes_eq}

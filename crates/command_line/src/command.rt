@@ -25,8 +25,8 @@ pub enum Command<'a> {
         plan: &'a str,
         script: &'a str,
     },
-    /// Serve the sessions of connections over the journal, with room for so many forms that are prepared before their answers
-    /// come, 1 to 1,024, or with none.
+    /// Serve the sessions of connections over the journal, with room for so many forms that are
+    /// prepared before their answers come, 1 to 1,024, or with none.
     Serve {
         bank: &'a str,
         plan: &'a str,
@@ -37,8 +37,8 @@ pub enum Command<'a> {
         bank: &'a str,
         plan: &'a str,
     },
-    /// Make a bank, a plan and a script of 1 to 200 sessions from a number, and do the script over a
-    /// disk in memory.
+    /// Make a bank, a plan and a script of 1 to 200 sessions from a number, and do the script over
+    /// a disk in memory.
     Drill {
         number: u32,
         sessions: u32,
@@ -48,7 +48,8 @@ pub enum Command<'a> {
         bank: &'a str,
         plan: &'a str,
     },
-    /// Assemble 1 to 4 forms of one plan without common items, by weights of the grid points, and print them with their tree.
+    /// Assemble 1 to 4 forms of one plan without common items, by weights of the grid points, and
+    /// print them with their tree.
     Series {
         bank: &'a str,
         plan: &'a str,
@@ -68,7 +69,8 @@ pub enum Command<'a> {
 }
 
 impl Command<'_> {
-    /// Whether it takes links of the doors: to serve, to follow or to ship. Each other command waits for nobody.
+    /// Whether it takes links of the doors: to serve, to follow or to ship. Each other command
+    /// waits for nobody.
     pub fn uses_doors(&self) -> bool
         ensures { MatchBool result (UsesDoors (said self.now)) (UsesDoors (said self.now) → ⊥) }
     {

@@ -1,10 +1,7 @@
 //! The weights of the grid points, as one word.
 
 ghost use Rattle.std.specs.Prelude.{◌≡◌, ◌==◌, IfOk, map, true};
-ghost use Rattle.std.specs.List.{list_all};
 ghost use Rattle.std.specs.Option.{unwrap_or};
-ghost use Rattle.exam_text.specs.Numbers.{number_of};
-ghost use Rattle.exam_text.specs.Words.{parts_at};
 ghost use Rattle.command_line.specs.Weights.{is_weight, weight_of, are_weights, weights_of};
 
 use std::alloc::{AllocError, Global};

@@ -1,4 +1,5 @@
--- A set meets the plan or breaches it first at one place, so a draft is a plan or has a first fault.
+-- A set meets the plan or breaches it first at one place, so a draft is a plan or has a first
+-- fault.
 use Rattle.std.proofs.Common.{◌≡◌, ℕ, zero, suc, ◌<◌, ◌≤◌, ◌⊎◌, inl, inr, Option, Some, None, List, length, refl, sym, ap, subst, ◌∙◌, arith}
 use Rattle.std.proofs.lemmas.Bool.{cases_lt, cases_eq}
 use Rattle.std.proofs.Math.Bool.{true≢false}

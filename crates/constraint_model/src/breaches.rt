@@ -67,7 +67,8 @@ fn items_at(bank: &Bank, stimulus: u8, form: &ItemSet, stimuli: &ItemSet) -> u32
     }
 }
 
-/// The first stimulus that doesn't hold, with its number of items, at a form that uses these stimuli.
+/// The first stimulus that doesn't hold, with its number of items, at a form that uses these
+/// stimuli.
 fn stimulus_breach(
     bank: &Bank,
     plan: &Draft,
@@ -121,8 +122,8 @@ pub fn plan_breach(bank: &Bank, plan: &Draft, form: &ItemSet) -> Option<Breach>
     None
 }
 
-/// The first breach of a set of items, in the order of length, rows, stimuli, items given and items barred, with the
-/// value found; none exactly where the set is a form of the problem.
+/// The first breach of a set of items, in the order of length, rows, stimuli, items given and items
+/// barred, with the value found; none exactly where the set is a form of the problem.
 pub fn meets(problem: &Problem, form: &ItemSet) -> Option<Breach>
     requires { IsWellMade (problem_of problem.now) }
     ensures { IsFirstBreach (problem_of problem.now) (has form.now) result }

@@ -114,8 +114,8 @@ fn is_prior(bank: &Bank, draft: &Draft) -> bool
     prior.len() == bank.grid() as usize && are_logliks(prior)
 }
 
-/// The first fault of a draft's length, prior and rows. A reader of drafts tests these before the stimulus numbers of its
-/// text, and what is left by `Spec::of`.
+/// The first fault of a draft's length, prior and rows. A reader of drafts tests these before the
+/// stimulus numbers of its text, and what is left by `Spec::of`.
 #[tactic(auto, unfolding(crate::specs::Faults::front_fault))]
 pub fn front_fault(bank: &Bank, draft: &Draft) -> Option<SpecFault>
     ensures { result ≡ front_fault bank.now draft.now }
@@ -250,7 +250,8 @@ fn end_fault(bank: &Bank, draft: &Draft) -> Option<SpecFault>
     limits_fault(bank, draft)
 }
 
-/// The first fault of a draft whose length, prior and rows have none, or none where it is a plan for the bank.
+/// The first fault of a draft whose length, prior and rows have none, or none where it is a plan
+/// for the bank.
 pub fn remaining_fault(bank: &Bank, draft: &Draft) -> Option<SpecFault>
     requires { front_fault bank.now draft.now ≡ None }
     ensures { MatchOption result (IsPlanFor bank.now draft.now) (IsSpecFault bank.now draft.now) }

@@ -1,4 +1,5 @@
-//! The prices that multipliers put on a row or stimulus and on its bounds (Lagrangian relaxation; Geoffrion, 1974).
+//! The prices that multipliers put on a row or stimulus and on its bounds (Lagrangian relaxation;
+//! Geoffrion, 1974).
 
 ghost use Rattle.std.specs.Prelude.{◌≡◌, ◌+◌, ◌*◌, ◌<◌, ◌≤◌, pos, slice_index, ◌*ℤ◌, ◌≤ℤ◌};
 ghost use Rattle.certificate_model.specs.Ranges.{AreMultipliers, IsWithin};

@@ -8,7 +8,8 @@ use crate::spec::Spec;
 use ability_grid::Sums;
 use bank_tables::{Bank, ItemSet};
 
-/// What a form is assembled for: van der Linden's 0-1 model, maximise the information at the estimate.
+/// What a form is assembled for: van der Linden's 0-1 model, maximise the information at the
+/// estimate.
 #[derive(Clone, Copy, Debug)]
 pub struct Problem<'a> {
     pub bank: &'a Bank,
@@ -31,8 +32,8 @@ pub struct Problem<'a> {
 }
 
 impl<'a> Problem<'a> {
-    /// The problem that has only the plan, at the mode of its prior: no session, eligibility set aside, nothing given,
-    /// nothing barred.
+    /// The problem that has only the plan, at the mode of its prior: no session, eligibility set
+    /// aside, nothing given, nothing barred.
     pub fn whole(bank: &'a Bank, spec: &'a Spec) -> Problem<'a>
         requires { IsPlanFor bank.now spec.now }
         ensures whole { IsWhole bank.now spec.now (problem_of result) }
@@ -53,8 +54,9 @@ impl<'a> Problem<'a> {
         }
     }
 
-    /// The same problem, made anew from its parts. A function that keeps a problem takes it by this call, since no proof is
-    /// generated where a parameter that holds references is moved as a whole.
+    /// The same problem, made anew from its parts. A function that keeps a problem takes it by this
+    /// call, since no proof is generated where a parameter that holds references is moved as a
+    /// whole.
     pub fn again(&self) -> Problem<'a>
         ensures { result ≡ self.now }
     {

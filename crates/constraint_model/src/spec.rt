@@ -41,8 +41,9 @@ fn facts_of_key(key: &[u8; 32])
 }
 
 impl Spec {
-    /// The plan of a draft, valid for the bank, or the draft's first fault: the tests go in the order of `SpecFault`'s
-    /// variants. It takes no memory of its own, so `SpecFault::Memory` is never given.
+    /// The plan of a draft, valid for the bank, or the draft's first fault: the tests go in the
+    /// order of `SpecFault`'s variants. It takes no memory of its own, so `SpecFault::Memory` is
+    /// never given.
     pub fn of(_alloc: Global, bank: &Bank, draft: Draft) -> Result<Spec, SpecFault>
         ensures same { IfOk result (λ spec. spec ≡ draft) }
         ensures valid { IfOk result (λ spec. IsPlanFor bank.now spec) }
@@ -62,7 +63,8 @@ impl Spec {
         Spec { draft }
     }
 
-    /// The same of a draft whose length, prior and rows `front_fault` has tested; they are not tested again.
+    /// The same of a draft whose length, prior and rows `front_fault` has tested; they are not
+    /// tested again.
     pub fn of_tested(bank: &Bank, draft: Draft) -> Result<Spec, SpecFault>
         requires { front_fault bank.now draft ≡ None }
         ensures same { IfOk result (λ spec. spec ≡ draft) }

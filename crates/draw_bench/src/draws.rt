@@ -31,7 +31,8 @@ fn each_second(from: u16) -> ItemSet {
     items
 }
 
-/// Counts of two finished sessions in which all items were eligible, and each was shown in one of them.
+/// Counts of two finished sessions in which all items were eligible, and each was shown in one of
+/// them.
 pub fn counters(alloc: Global) -> Result<Counters, Memory>
     ensures { IfOk result (λ counters. length counters.counts ≡ 512) }
 {

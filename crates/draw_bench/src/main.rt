@@ -1,7 +1,8 @@
-//! The program `draw_bench`: it times the draw of the items that are eligible for a session. `SESSIONS ROUNDS` draws those of
-//! 512 items in each of eight bands, for so many sessions, in so many rounds. Each item has counts, and is drawn with the
-//! probability one half. It prints a line for each round, with the number of items that were eligible, summed over sessions
-//! and bands; with the word `quiet` it prints no times. It is proved safe, and promises nothing on time.
+//! The program `draw_bench`: it times the draw of the items that are eligible for a session.
+//! `SESSIONS ROUNDS` draws those of 512 items in each of eight bands, for so many sessions, in so
+//! many rounds. Each item has counts, and is drawn with the probability one half. It prints a line
+//! for each round, with the number of items that were eligible, summed over sessions and bands;
+//! with the word `quiet` it prints no times. It is proved safe, and promises nothing on time.
 #![tactic(auto)]
 
 mod command;

@@ -6,8 +6,9 @@ ghost use Rattle.history_model.specs.Draws.{is_admitted};
 use form_model::Rate;
 use history_model::Counts;
 
-/// Whether an item of these counts is eligible at this word: always where it was never shown, and otherwise where the word, as
-/// a part of 2^32, is below the probability `num * eps / (den * alpha)`. No product wraps: each is below 2^96.
+/// Whether an item of these counts is eligible at this word: always where it was never shown, and
+/// otherwise where the word, as a part of 2^32, is below the probability
+/// `num * eps / (den * alpha)`. No product wraps: each is below 2^96.
 pub fn admits(word: u32, rate: Rate, counts: Counts) -> bool
     ensures { result ≡ is_admitted word rate counts }
 {

@@ -13,9 +13,9 @@ use rand_chacha::ChaCha20Rng;
 use rand_core::SeedableRng;
 use rand_core::utils::NextWord;
 
-/// The items that are eligible for a session in a band, of those that the counters have; the counters are those of the band.
-/// The word of an item is the one at the place `512 * band + item` of the session's stream of ChaCha20 with the key (RFC
-/// 8439). Takes no memory.
+/// The items that are eligible for a session in a band, of those that the counters have; the
+/// counters are those of the band. The word of an item is the one at the place `512 * band + item`
+/// of the session's stream of ChaCha20 with the key (RFC 8439). Takes no memory.
 #[tactic(auto, unfolding(history_model::specs::Draws::draw_word))]
 pub fn draw_band(key: &[u8; 32], rate: Rate, session: u32, band: u8, counters: &Counters) -> ItemSet
     requires { band < 8 }

@@ -109,7 +109,8 @@ tested b plan H (Close session booking) r e =
 tested b plan H (Look session) r e = tested_in H (place plan H session) (λ (at : Place). None) (λ at r f. cc) r e
 tested b plan H Exposure r e = cc
 
--- ---- a request that is done, with a refusal as its reply: that of a test, or that no form is known
+-- ---- a request that is done, with a refusal as its reply: that of a test, or that no form is
+-- known
 tested_lacking : (b : Tables) (plan : Plan) (X : Set) (r : Refusal) → LacksForm b plan X r → IsTested r
 tested_lacking b plan X r (no_form P whole none) = tt
 tested_lacking b plan X r (none_found P T leaves whole verdict spent) = tt

@@ -13,8 +13,8 @@ use exam_edge::MemoryDisk;
 use exam_office::{Alone, Refusal, Reply, Request};
 use std::alloc::Global;
 
-/// The fault that a reply ends a drill with, if it does. A disk in memory whose calls aren't told to
-/// fail fails for lack of memory alone.
+/// The fault that a reply ends a drill with, if it does. A disk in memory whose calls aren't told
+/// to fail fails for lack of memory alone.
 fn fault_of(spec: &Spec, reply: &Reply) -> Option<DrillFault>
     ensures { result ≡ fault_of spec.now reply.now }
 {

@@ -49,9 +49,9 @@ fn examine(
     }
 }
 
-/// Makes the texts of a drill of so many sessions from a number, reads them, does the requests of its
-/// script over a disk in memory, and gives the summary of the history that they lead to. Only memory
-/// may run out.
+/// Makes the texts of a drill of so many sessions from a number, reads them, does the requests of
+/// its script over a disk in memory, and gives the summary of the history that they lead to. Only
+/// memory may run out.
 pub fn run_drill(alloc: Global, number: u32, sessions: u32) -> Result<Summary, DrillFault>
     requires some { 1 ≤ sessions }
     requires few { sessions ≤ 200 }

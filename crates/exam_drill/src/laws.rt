@@ -7,9 +7,10 @@ pub fn frames_are_short()
     ensures { FramesAreShort }
 {}
 
-/// By a plan of one band the journal of an examination has at most eight bytes, and for each session that the plan allows the
-/// frames of a session: with a tree one for each item of the test and one for eligibility set aside, and without one for each
-/// answer, one for the start and one for the closing.
+/// By a plan of one band the journal of an examination has at most eight bytes, and for each
+/// session that the plan allows the frames of a session: with a tree one for each item of the test
+/// and one for eligibility set aside, and without one for each answer, one for the start and one
+/// for the closing.
 pub fn journals_are_short()
     ensures { JournalsAreShort }
 {}

@@ -1,7 +1,7 @@
 //! A drill: an examination of its own making, from its texts to its summary.
 //!
-//! Upward it promises the summary of a history to which the requests of the made script lead from the
-//! empty one, or the stated cause why there is none. It opens no file and prints nothing.
+//! Upward it promises the summary of a history to which the requests of the made script lead from
+//! the empty one, or the stated cause why there is none. It opens no file and prints nothing.
 #![tactic(auto)]
 
 mod asking;

@@ -1,4 +1,5 @@
--- The rule of an opening is that of all openings, for records that begin with those that were found.
+-- The rule of an opening is that of all openings, for records that begin with those that were
+-- found.
 use Rattle.std.proofs.Common.{◌≡◌, ⊎_elim, ℕ, List, [], ◌∷◌, ◌++◌, map, IsTrue, refl, sym, ap, ◌∙◌, subst, append_assoc}
 use Rattle.std.specs.Prelude.{Contains}
 use Rattle.std.specs.List.{AllByRecursion}

@@ -1,6 +1,6 @@
 //! An offer is delivered.
 
-ghost use Rattle.std.specs.Prelude.{◌≡◌, ◌⊎◌, ◌<◌, ℕ, List, [], ◌∷◌, ◌++◌, length, Some, None, IsTrue, IfOk, IfErr, OnOk, OnErr};
+ghost use Rattle.std.specs.Prelude.{◌≡◌, ◌<◌, [], ◌∷◌, ◌++◌, length, Some, None, IsTrue, IfOk, IfErr, OnOk, OnErr};
 ghost use Rattle.exam_edge.specs.Faults.{Rose};
 ghost use Rattle.exam_edge.specs.Images.{AtEachMoment};
 ghost use Rattle.answer_journal.specs.Journal.{accounts_of, faults_of, tells_of};
@@ -89,10 +89,10 @@ impl<'a, D: Disk> Follower<'a, D> {
         }
     }
 
-    /// Delivers an offer, and answers how many records it has then, each on its disk for sure. The record in doubt, if there
-    /// is one, is resolved first: one that is kept counts as had. An offer with another number than the count leaves the
-    /// records. A refusal leaves them too, and writes nothing but what resolving the doubt writes; after `Disk` the record
-    /// may be in doubt.
+    /// Delivers an offer, and answers how many records it has then, each on its disk for sure. The
+    /// record in doubt, if there is one, is resolved first: one that is kept counts as had. An
+    /// offer with another number than the count leaves the records. A refusal leaves them too, and
+    /// writes nothing but what resolving the doubt writes; after `Disk` the record may be in doubt.
     pub fn deliver(
         &mut self,
         alloc: Global,

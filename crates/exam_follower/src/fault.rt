@@ -10,7 +10,8 @@ pub enum DeliverFault {
     BadRecord(RecordFault),
     /// Its number is the count, and its record may not follow the entries of the history.
     Refused(Illegal),
-    /// Its number is the count and its record may follow; with it the journal would have this length in bytes, above its limit.
+    /// Its number is the count and its record may follow; with it the journal would have this
+    /// length in bytes, above its limit.
     Full(u64),
     /// A call of the disk failed, and the disk has counted that.
     Disk,

@@ -61,8 +61,9 @@ impl<'a, D: Disk> Follower<'a, D> {
     ghost use Rattle.exam_follower.specs.Followers.{held_of, records_of, found, AreSpelled};
     ghost use Rattle.exam_follower.specs.Takeover.{IsKeptByTakeover, IsKeptOverOpenings};
 
-    /// Opens a follower over a disk, as an office is opened there: its records are those in the file. The base is a form of
-    /// the plan alone. The disk is as a reboot or a journal left it. A refusal gives the disk back.
+    /// Opens a follower over a disk, as an office is opened there: its records are those in the
+    /// file. The base is a form of the plan alone. The disk is as a reboot or a journal left it. A
+    /// refusal gives the disk back.
     pub fn open(
         alloc: Global,
         bank: &'a Bank,
@@ -96,7 +97,8 @@ impl<'a, D: Disk> Follower<'a, D> {
         ensures images { IfOk result (λ f. IsTrue (D.tells disk)
             → AllImages (StandsSecond bank.now spec.now (history f.office.marks))
             (latest (accounts_of f.office.journal))) }
-        // While it was opened, each such file represented the history, or is one that a crash might have left before.
+        // While it was opened, each such file represented the history, or is one that a crash might
+        // have left before.
         ensures moments { IfOk result (λ f. IsTrue (D.tells disk)
             → AreOpeningMoments bank.now spec.now (history f.office.marks)
             (latest (D.accounts disk)) (D.accounts disk) (accounts_of f.office.journal)) }
@@ -123,7 +125,8 @@ impl<'a, D: Disk> Follower<'a, D> {
             → IsSettled (D.content disk) (D.accounts disk) → (H : List Entry)
             → Stands bank.now spec.now H (D.content disk)
             → AtEachMoment (D.accounts disk) (D.accounts e.0) (Stands bank.now spec.now H)) }
-        // What is cut was put aside before, and nothing else was; no other refusal puts anything aside.
+        // What is cut was put aside before, and nothing else was; no other refusal puts anything
+        // aside.
         ensures aside_kept { IfErr result (λ e. e.1 ≢ OfDisk → IsTrue (D.tells disk)
             → D.aside e.0 ≡ D.aside disk) }
         ensures tail_aside { IfOk result (λ f. IsTrue (D.tells disk)
@@ -153,9 +156,10 @@ impl<'a, D: Disk> Follower<'a, D> {
         self.office.records()
     }
 
-    /// What its type keeps, as a law. The entries of the history are those that were found and those of the records that it
-    /// took. Of a disk that reports its content, its records spell the history, and with none in doubt the journal has them.
-    /// Each file that a crash may leave has them, or these with the one in doubt.
+    /// What its type keeps, as a law. The entries of the history are those that were found and
+    /// those of the records that it took. Of a disk that reports its content, its records spell the
+    /// history, and with none in doubt the journal has them. Each file that a crash may leave has
+    /// them, or these with the one in doubt.
     pub fn keeps(&self)
         ensures history { history self.now.office.marks
             ≡ found self.now.office.marks ++ entries_of self.now.taken }
@@ -172,17 +176,19 @@ impl<'a, D: Disk> Follower<'a, D> {
         self.office.holds();
     }
 
-    /// The office of it, which goes on where it is: a takeover. Its history is the entries of the follower, and it has each
-    /// record that the follower answered for.
+    /// The office of it, which goes on where it is: a takeover. Its history is the entries of the
+    /// follower, and it has each record that the follower answered for.
     pub fn promote(self) -> Office<'a, D>
         ensures office { result ≡ self.entry.office }
         ensures history { history result.marks
             ≡ found result.marks ++ entries_of self.entry.taken }
-        // Whatever happened to a leader and this follower of it, by its rule: each record that is numbered below a have
-        // which the follower answered has its entry, the leader's, in the history.
+        // Whatever happened to a leader and this follower of it, by its rule: each record that is
+        // numbered below a have which the follower answered has its entry, the leader's, in the
+        // history.
         ensures answered { IsTrue (tells_of result.journal) → IsKeptByTakeover self.entry
             (history result.marks) }
-        // So it is of the haves of all openings, which are events by one rule: `laws::all_in_one_world`.
+        // So it is of the haves of all openings, which are events by one rule:
+        // `laws::all_in_one_world`.
         ensures ever { IsTrue (tells_of result.journal) → IsKeptOverOpenings self.entry
             (history result.marks) }
     {

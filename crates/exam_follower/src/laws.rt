@@ -1,4 +1,5 @@
-//! What holds of a follower over any number of openings of its file: functions that do nothing, and whose clauses are laws.
+//! What holds of a follower over any number of openings of its file: functions that do nothing, and
+//! whose clauses are laws.
 
 ghost use Rattle.std.specs.Prelude.{IsTrue};
 ghost use Rattle.answer_journal.specs.Journal.{tells_of};
@@ -7,8 +8,8 @@ ghost use Rattle.exam_follower.specs.Openings.{TakesInWorld, FailsInWorld, Links
 use crate::Follower;
 use exam_edge::Disk;
 
-/// What a follower does with offers that were sent happens in the world of its leader, by the rule of its bank and its plan,
-/// which is one for all openings.
+/// What a follower does with offers that were sent happens in the world of its leader, by the rule
+/// of its bank and its plan, which is one for all openings.
 pub fn all_in_one_world<'a, D: Disk>(follower: &Follower<'a, D>)
     ensures taken { IsTrue (tells_of follower.now.office.journal) → TakesInWorld follower.now }
     ensures fault { IsTrue (tells_of follower.now.office.journal) → FailsInWorld follower.now }
@@ -17,8 +18,9 @@ pub fn all_in_one_world<'a, D: Disk>(follower: &Follower<'a, D>)
     let _ = &follower.office;
 }
 
-/// A follower that is opened over the file that a stop left is in the world of the one before: it has a beginning of the
-/// leader's records, and each record that any opening of the file answered for.
+/// A follower that is opened over the file that a stop left is in the world of the one before: it
+/// has a beginning of the leader's records, and each record that any opening of the file answered
+/// for.
 pub fn openings_in_one_world<'a, 'b, D: Disk>(earlier: &Follower<'a, D>, _later: &Follower<'b, D>)
     ensures { IsTrue (tells_of earlier.now.office.journal)
         → OpensInWorld earlier.now _later.now }

@@ -12,7 +12,8 @@ use record_links::{LogFault, RecordLog};
 use std::alloc::Global;
 use std::marker::Model;
 
-/// An office whose records are shipped, with the place of the one that is read next. No entry of it is in doubt.
+/// An office whose records are shipped, with the place of the one that is read next. No entry of it
+/// is in doubt.
 pub struct OfficeLog<'a, D: Disk> {
     office: Office<'a, D>,
     cursor: Cursor,
@@ -40,7 +41,8 @@ fn log_fault(refusal: Refusal) -> LogFault
     }
 }
 
-// Reads on until a cursor is at the record of a number; from the first record on, where it is past that.
+// Reads on until a cursor is at the record of a number; from the first record on, where it is past
+// that.
 fn go_to<'a, D: Disk>(
     alloc: Global,
     office: &mut Office<'a, D>,

@@ -9,7 +9,8 @@ use exam_edge::Disk;
 use record_links::{Replica, TakeFault};
 use std::alloc::Global;
 
-/// The fault of a replica: a payload that is no record is refused as a record that may not follow is.
+/// The fault of a replica: a payload that is no record is refused as a record that may not follow
+/// is.
 fn take_fault(fault: DeliverFault) -> TakeFault
     ensures { result ≡ taken_as fault }
 {

@@ -40,7 +40,8 @@ FailsAs b plan mid e after (JournalFull size) = (after ≡ mid) × IsTooLong b p
 FailsAs b plan mid e after Memory = after ≡ mid
 FailsAs b plan mid e after r = ⊥
 
--- a call settles the entry in doubt; then it tests the history that it finds, and adds no entry, or one
+-- a call settles the entry in doubt; then it tests the history that it finds, and adds no entry, or
+-- one
 pub data CallsOn (b : Tables) (plan : Plan) (finds : List Entry → Finding → Type 0) (before after : List Mark) : Option Refusal → Type 0 where
   unmended : (r : Refusal) → StaysInDoubt before after r → CallsOn b plan finds before after (Some r)
   refused : (mid : List Mark) (r : Refusal) → Settled before mid → finds (history mid) (refuse r) → after ≡ mid → CallsOn b plan finds before after (Some r)

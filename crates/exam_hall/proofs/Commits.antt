@@ -1,6 +1,5 @@
 -- What the commit of an assembly comes to.
 use Rattle.std.proofs.Common.{◌≡◌, ℕ, ◌+◌, ◌==◌, Bool, true, false, cond, List, [], ◌∷◌, ◌++◌, length, refl, sym, ap, ◌∙◌, subst, inl, inr, ⊎_elim, arith, append_assoc, Option, Some, None, length-append, eq-eqb}
-use Rattle.std.specs.List.{list_any}
 use Rattle.std.proofs.lemmas.Bool.{true≢false}
 use Rattle.bank_tables.specs.Items.{has}
 use Rattle.bank_tables.specs.Tables.{Tables}
@@ -37,7 +36,7 @@ use Rattle.branch_bound.specs.declared.outcome.Outcome.TheVariants.{Found, NoFor
 use Rattle.exam_office.specs.declared.mark.Mark.{Mark}
 use Rattle.exam_office.specs.declared.mark.Mark.TheVariants.{Old, Opened, Own, Adopted, Fault}
 use Rattle.exam_office.specs.Asking.{IsGood}
-use Rattle.exam_office.specs.Calls.{Finding, Calls, refused_with}
+use Rattle.exam_office.specs.Calls.{Finding, Calls}
 use Rattle.exam_office.specs.Commits.{IsStaleBy, IsEntryFor, IsOfStart, IsStillAsked, FindsCommit, MayBeCommitted}
 use Rattle.exam_office.specs.Marks.{history}
 use Rattle.exam_office.specs.Noting.{IsDoubtOf}

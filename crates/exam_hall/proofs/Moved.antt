@@ -8,7 +8,7 @@ use Rattle.form_model.specs.Plan.{Plan}
 use Rattle.history_model.specs.declared.entry.Entry.{Entry}
 use Rattle.history_model.specs.declared.entry.Entry.TheVariants.{Started, SetAside, Served, Answered, Closed}
 use Rattle.history_model.specs.declared.place.Place.TheVariants.{Pending}
-use Rattle.history_model.specs.Entries.{Serving, StepAnswer, servings, step_answers, is_set_aside, seat_of}
+use Rattle.history_model.specs.Entries.{Serving, StepAnswer, servings, step_answers}
 use Rattle.history_model.specs.Legality.{LegalRun}
 use Rattle.history_model.specs.Places.{place}
 use Rattle.history_model.proofs.SessionEntries.{session_serving, session_answer, servings_by, answers_by}

@@ -185,7 +185,8 @@ form_serves P n s form proved o e is made aside =
 entry_serves : (made : Assembly) (s : ℕ) (e : Entry) → HasForm made → IsEntryOf made e → IsAside s e → ⊥
 entry_serves made s e has_form is aside = form_serves (problem_of made.problem) (length made.tree.nodes) s has_form.0 has_form.1 made.outcome e has_form.2 is aside
 
--- after the commit of a form the session doesn't wait for the item of that step, unless others set eligibility aside for it
+-- after the commit of a form the session doesn't wait for the item of that step, unless others set
+-- eligibility aside for it
 module _ (h : HallKnown) (P Q : Problem) (old mid new : Known Mark) (asked : IsAsked h.bank h.plan (history old.seen) P) (r : Rounds h P old mid (Again Q))
     (made : Assembly) (only : AddsOwn (IsEntryOf made) old mid) (has_form : HasForm made) (fs qs : List ℕ) (w : Went mid new fs qs)
     (own : List ℕ) (own_is : new.mine ≡ old.mine ++ own) (none : HasOther (IsAside P.session) old.seen new.seen own → ⊥) where

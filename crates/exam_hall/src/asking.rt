@@ -54,7 +54,8 @@ pub(crate) fn vector_for<'a, D: Disk>(
     }
 }
 
-/// The problem of the session of a reply, where it waits for an item, and the vector of the session.
+/// The problem of the session of a reply, where it waits for an item, and the vector of the
+/// session.
 fn begun_by<'a, D: Disk>(office: &Office<'a, D>, alloc: Global, reply: Reply) -> FirstAnswer<'a>
     requires { IsPlacedReply office.now.plan (history office.now.marks) reply }
     ensures { IsBegunAt office.now.bank office.now.plan

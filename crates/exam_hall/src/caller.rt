@@ -12,8 +12,8 @@ use std::marker::Model;
 use std::sync::Wait;
 use turn_lock::Pass;
 
-/// A caller of a hall: it answers requests with a pass of its own. By its type the pass is of the hall. Its gate is also the
-/// observer, which is told how the examination is after each response.
+/// A caller of a hall: it answers requests with a pass of its own. By its type the pass is of the
+/// hall. Its gate is also the observer, which is told how the examination is after each response.
 #[derive(Drop)]
 pub struct Caller<'h, 'a, D: Disk, G: Gate + Observer> {
     hall: &'h Hall<'a, D>,

@@ -33,7 +33,8 @@ pub(crate) struct Commit<'a> {
     pub(crate) assembled: Assembled<'a>,
 }
 
-/// Where the session of a problem is, and its next problem where it still waits for the item of the same step.
+/// Where the session of a problem is, and its next problem where it still waits for the item of the
+/// same step.
 fn round_at<'a, D: Disk>(office: &Office<'a, D>, asked: &Problem<'a>, at: Place) -> Round<'a>
     requires { place office.now.plan (history office.now.marks) asked.now.session ≡ Some at }
     ensures { IsRoundAt office.now.bank office.now.plan (history office.now.marks) asked.now at

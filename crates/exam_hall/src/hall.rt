@@ -47,8 +47,9 @@ use std::marker::Model;
 use std::sync::Wait;
 use turn_lock::{Pass, Turn};
 
-/// An office that callers share, each with a pass. Contracts see the hall's lock, and the bank, the plan and the base
-/// form of its office. It can't be dropped: `close` ends it, and gives the office back.
+/// An office that callers share, each with a pass. Contracts see the hall's lock, and the bank, the
+/// plan and the base form of its office. It can't be dropped: `close` ends it, and gives the office
+/// back.
 pub struct Hall<'a, D: Disk> {
     turn: Turn<Office<'a, D>>,
     bank: &'a Bank,
@@ -76,8 +77,8 @@ impl<'a, D: Disk> Model for Hall<'a, D> {
 }
 
 impl<'a, D: Disk> Hall<'a, D> {
-    /// A hall over an office, and its first pass, which has seen all marks of the office. Out of memory, the office is
-    /// given back as it was.
+    /// A hall over an office, and its first pass, which has seen all marks of the office. Out of
+    /// memory, the office is given back as it was.
     pub fn new(
         alloc: Global,
         office: Office<'a, D>,
@@ -108,8 +109,8 @@ impl<'a, D: Disk> Hall<'a, D> {
         }
     }
 
-    /// A new pass, which has seen as much as the first one. It takes no memory. Only the first pass is split, at most
-    /// 65,535 times.
+    /// A new pass, which has seen as much as the first one. It takes no memory. Only the first pass
+    /// is split, at most 65,535 times.
     pub fn split(&self, pass: &mut Pass<Office<'a, D>>) -> Pass<Office<'a, D>>
         requires of { IsOf pass.old self.now }
         requires first { (pass.old.number ≡ 0) × (pass.old.splits < 65535) }
@@ -122,8 +123,8 @@ impl<'a, D: Disk> Hall<'a, D> {
         self.turn.split(pass)
     }
 
-    /// Joins another pass into this one, which has then seen the longer of what the two have seen, and has both their
-    /// places for its own.
+    /// Joins another pass into this one, which has then seen the longer of what the two have seen,
+    /// and has both their places for its own.
     pub fn join(&self, pass: &mut Pass<Office<'a, D>>, other: Pass<Office<'a, D>>)
         requires of { IsOf pass.old self.now }
         requires other_of { IsOf other self.now }
@@ -133,9 +134,10 @@ impl<'a, D: Disk> Hall<'a, D> {
         self.turn.join(pass, other);
     }
 
-    /// Waits for a last turn, and gives the office that is found then. Its marks begin with all that the pass has seen.
-    /// If the pass is the first one, and each pass that was split from it was joined into it, it has seen all marks, and
-    /// each mark since the hall was made is its own. Else nothing is promised of marks that only other passes have seen.
+    /// Waits for a last turn, and gives the office that is found then. Its marks begin with all
+    /// that the pass has seen. If the pass is the first one, and each pass that was split from it
+    /// was joined into it, it has seen all marks, and each mark since the hall was made is its own.
+    /// Else nothing is promised of marks that only other passes have seen.
     pub fn close<R: Wait>(self, rt: &R, pass: Pass<Office<'a, D>>) -> Office<'a, D>
         requires of { IsOf pass self }
         ensures begins { StartsWith (noted (opened_with result) result.marks)
@@ -158,11 +160,12 @@ impl<'a, D: Disk> Hall<'a, D> {
         self.base
     }
 
-    /// Answers a request, in one turn, and two more at most. Where its session waits for an item, a form is assembled
-    /// between two turns, and the gate is passed before and after that. If the session moved on meanwhile, its place
-    /// is the reply; if it still waits at the same step, there is one assembly more. Before the first turn of a
-    /// request with a list, a form without the items of the list is assembled where the base has one of them; the gate
-    /// is passed before and after that too. It waits for its turns.
+    /// Answers a request, in one turn, and two more at most. Where its session waits for an item, a
+    /// form is assembled between two turns, and the gate is passed before and after that. If the
+    /// session moved on meanwhile, its place is the reply; if it still waits at the same step,
+    /// there is one assembly more. Before the first turn of a request with a list, a form without
+    /// the items of the list is assembled where the base has one of them; the gate is passed before
+    /// and after that too. It waits for its turns.
     pub fn handle<G: Gate, R: Wait>(
         &self,
         rt: &R,
@@ -180,12 +183,12 @@ impl<'a, D: Disk> Hall<'a, D> {
         self.handle_prepared(rt, alloc, gate, pass, request, None)
     }
 
-    /// Answers a request so, with what was assembled ahead. If its whole problem is the one that the
-    /// first turn finds, it is committed in place of the first assembly; else it is dropped. So a
-    /// result for another response, for a step that is over or for a session that was closed
+    /// Answers a request so, with what was assembled ahead. If its whole problem is the one that
+    /// the first turn finds, it is committed in place of the first assembly; else it is dropped. So
+    /// a result for another response, for a step that is over or for a session that was closed
     /// meanwhile is not used.
-    /// Where a form is ready for the answer, an item that is served at the next step is one of that form, unless another
-    /// caller set eligibility aside for the session meanwhile.
+    /// Where a form is ready for the answer, an item that is served at the next step is one of that
+    /// form, unless another caller set eligibility aside for the session meanwhile.
     pub fn handle_prepared<G: Gate, R: Wait>(
         &self,
         rt: &R,
@@ -274,8 +277,8 @@ impl<'a, D: Disk> Hall<'a, D> {
     }
 
     /// What is assembled for a problem before the answer that leads to it comes, from a vector or
-    /// from none. `handle_prepared` may have it. The gate is passed before and after the assembly. It
-    /// takes no turn.
+    /// from none. `handle_prepared` may have it. The gate is passed before and after the assembly.
+    /// It takes no turn.
     pub fn prepare<G: Gate>(
         &self,
         alloc: Global,
@@ -316,8 +319,8 @@ impl<'a, D: Disk> Hall<'a, D> {
         }
     }
 
-    /// A form without these items, or why none is known: the base, if it has none of them, else what
-    /// an assembly gives. The gate is passed before and after an assembly.
+    /// A form without these items, or why none is known: the base, if it has none of them, else
+    /// what an assembly gives. The gate is passed before and after an assembly.
     fn seek_without<G: Gate>(
         &self,
         alloc: Global,

@@ -20,8 +20,8 @@ pub enum Ahead<'a> {
         problem: Problem<'a>,
         warm: Option<Vector>,
     },
-    /// No step follows: the session waits for no answer, its item has no such response, or it is the
-    /// last one.
+    /// No step follows: the session waits for no answer, its item has no such response, or it is
+    /// the last one.
     NoStep,
 }
 

@@ -1,6 +1,5 @@
 //! The turns of a look at the health.
 
-ghost use Rattle.std.specs.Prelude.{◌≡◌, IfErr};
 ghost use Rattle.exam_hall.specs.Probes.{Probed, Probing, Watching};
 
 use exam_edge::Disk;

@@ -15,10 +15,12 @@ pub trait Handler {
     ghost use Rattle.history_model.specs.declared.request.Request.{Request};
     ghost use Rattle.history_model.specs.declared.request.Reply.{Reply};
 
-    /// What a request does: the handler before it, the request, its reply, and the handler after it.
+    /// What a request does: the handler before it, the request, its reply, and the handler after
+    /// it.
     ghost does: { Self → Request → Reply → Self → Type 0 };
 
-    /// What a look at the health does: the handler before it, what it finds, and the handler after it.
+    /// What a look at the health does: the handler before it, what it finds, and the handler after
+    /// it.
     ghost probes: { Self → Result Health Refusal → Self → Type 0 };
 
     /// What idle time does: the handler before and after it.

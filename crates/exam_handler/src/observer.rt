@@ -3,10 +3,11 @@
 use crate::Health;
 use exam_edge::OpenGate;
 
-/// Whoever watches an examination for its operator. It is told how the examination is, and changes nothing of it.
+/// Whoever watches an examination for its operator. It is told how the examination is, and changes
+/// nothing of it.
 pub trait Observer: Drop {
-    /// Tells it how the examination is: once its journal was read, after each response, and at the end
-    /// of its server.
+    /// Tells it how the examination is: once its journal was read, after each response, and at the
+    /// end of its server.
     fn see(&self, health: &Health);
 }
 

@@ -20,7 +20,7 @@ use Rattle.exam_http.specs.declared.asked.Asked.{Asked}
 use Rattle.exam_http.specs.declared.asked.Asked.TheVariants as ask
 use Rattle.exam_http.specs.declared.message_fault.MessageFault.{MessageFault}
 use Rattle.exam_http.specs.Serving as serving
-use Rattle.exam_http.specs.Serving.{AllowsNext, AllowsResponse, AllowsServed, Begins, Serves, IsServed, IsCutOff, IsAfter, Becomes, IsPartOfResponse, Refuses, Gets, IsResponse, LeadsTo, unchanged, then_asked, then_probed}
+use Rattle.exam_http.specs.Serving.{AllowsNext, AllowsResponse, AllowsServed, Begins, Serves, IsCutOff, IsAfter, Becomes, IsPartOfResponse, Refuses, Gets, IsResponse, LeadsTo, unchanged, then_asked, then_probed}
 
 pub on_err : {T E : Type 0} (r : Result T E) (P : Type 0) → P → OnErr r P
 on_err (Ok x) P p = tt

@@ -18,7 +18,7 @@ use Rattle.exam_http.specs.declared.route.Route.TheVariants.{Sessions, Session, 
 use Rattle.exam_http.specs.Paths.{IsRoute, path_of, Names}
 use Rattle.exam_http.specs.Table.{table, kind_of}
 use Rattle.exam_http.specs.Serving as serving
-use Rattle.exam_http.specs.Serving.{Serves, IsAnswered}
+use Rattle.exam_http.specs.Serving.{Serves}
 use Rattle.exam_http.proofs.Names.{leads}
 
 same_kind : (r s : Route) → IsRoute r → IsRoute s → path_of r ≡ path_of s → kind_of r ≡ kind_of s

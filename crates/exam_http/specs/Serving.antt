@@ -30,8 +30,8 @@ Refuses fault text (Over Link) = Begins text (wire_fault_text fault)
 Refuses fault text (Over Memory) = text ≡ []
 
 -- `token` is what messages have to bear, if there is one. `does old request reply new` is what a
--- request does to the handler, `probes old found new` what a look at the health does, and `idles old
--- new` what idle time does
+-- request does to the handler, `probes old found new` what a look at the health does, and
+-- `idles old new` what idle time does
 module _ {H : Type 0} (token : Option (List ℕ)) (does : H → Request → Reply → H → Type 0)
     (probes : H → Result Health Refusal → H → Type 0) where
   -- what is asked is done, and the text is the response of its reply; a message that asks nothing
@@ -152,9 +152,9 @@ module _ {H : Type 0} (token : Option (List ℕ)) (does : H → Request → Repl
 -- `does`, `probes` and `idles` are those of a handler, as above
 module _ {H : Type 0} (does : H → Request → Reply → H → Type 0)
     (probes : H → Result Health Refusal → H → Type 0) (idles : H → H → Type 0) where
-  -- requests that were done, looks at the health and idle times that passed, one after another, lead
-  -- from a handler to another. It is what is known of a handler where the link does not tell its
-  -- bytes
+  -- requests that were done, looks at the health and idle times that passed, one after another,
+  -- lead from a handler to another. It is what is known of a handler where the link does not tell
+  -- its bytes
   pub data LeadsTo (start : H) : H → Type 0 where
     unchanged : LeadsTo start start
     then_asked : (request : Request) (reply : Reply) (old new : H) → LeadsTo start old

@@ -62,7 +62,8 @@ fn item_of(element: &Value) -> Option<u16>
     }
 }
 
-// The set of the items that the elements of an array are, if each is a number of at most 511, in digits alone.
+// The set of the items that the elements of an array are, if each is a number of at most 511, in
+// digits alone.
 fn items_in(elements: &[Value]) -> Option<ItemSet>
     ensures { IsSetIn (items_view elements.now) result }
 {

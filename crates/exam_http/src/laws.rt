@@ -1,5 +1,5 @@
 //! What the definitions mean: functions that do nothing, and whose clauses are laws.
-ghost use Rattle.std.specs.Prelude.{◌≡◌, ◌⊎◌, ◌++◌, ◌∷◌, ℕ, List, Option, Some, None, Result, Ok, Err, codes, true, false};
+ghost use Rattle.std.specs.Prelude.{◌≡◌, ◌⊎◌, ◌++◌, ℕ, List, Option, Some, None, Result, Ok, Err, codes, true, false};
 ghost use Rattle.history_model.specs.declared.place.Place.TheVariants.{Waiting};
 ghost use Rattle.history_model.specs.declared.request.Reply.TheVariants.{At};
 ghost use Rattle.exam_http.specs.declared.asked.Asked.{Asked};

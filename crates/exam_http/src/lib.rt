@@ -1,7 +1,7 @@
-//! An examination over one connection: what a message asks, and the responses that a connection gets for its messages.
-//! Upward it promises that the responses written are those to the messages of the connection's bytes, in order, whoever
-//! answers the requests, and that a server with a token does nothing for a message that does not bear it. It never opens a
-//! connection.
+//! An examination over one connection: what a message asks, and the responses that a connection
+//! gets for its messages. Upward it promises that the responses written are those to the messages
+//! of the connection's bytes, in order, whoever answers the requests, and that a server with a
+//! token does nothing for a message that does not bear it. It never opens a connection.
 #![tactic(auto)]
 
 mod asked;

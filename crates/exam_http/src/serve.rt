@@ -44,7 +44,8 @@ fn write_all<K: Link>(link: &mut K, text: &[u8]) -> Result<(), Failed>
     Ok(())
 }
 
-// Does what a message asks, and returns the response. When memory runs out, it may have been done or not.
+// Does what a message asks, and returns the response. When memory runs out, it may have been done
+// or not.
 fn respond<R: Wait + Sync, H: Handler>(
     rt: &R,
     alloc: Global,
@@ -200,11 +201,12 @@ fn serve_all<R: Wait + Sync, H: Handler, K: Link>(
     unreachable!()
 }
 
-/// Serves one connection to its end: what each message asks is done, and its response written, in order; then the response
-/// of a fault, if there is one. If the link fails or memory runs out, the last response may be cut off. Where there is a
-/// token, a message that does not bear it is refused, and does nothing, but for a look at the health. `busy` is how many
-/// workers serve a connection now. Whatever the link tells of its bytes, nothing but requests, looks at the health and idle
-/// time changes the handler.
+/// Serves one connection to its end: what each message asks is done, and its response written, in
+/// order; then the response of a fault, if there is one. If the link fails or memory runs out, the
+/// last response may be cut off. Where there is a token, a message that does not bear it is
+/// refused, and does nothing, but for a look at the health. `busy` is how many workers serve a
+/// connection now. Whatever the link tells of its bytes, nothing but requests, looks at the health
+/// and idle time changes the handler.
 pub fn serve_connection<R: Wait + Sync, H: Handler, K: Link>(
     rt: &R,
     alloc: Global,
@@ -213,8 +215,9 @@ pub fn serve_connection<R: Wait + Sync, H: Handler, K: Link>(
     token: Option<&[u8]>,
     busy: &AtomicU32,
 ) -> Ended
-    // At each moment, also of a connection that never ends, what was written is the responses to the messages that came,
-    // in order, and a beginning of the next response: a link need allow nothing else.
+    // At each moment, also of a connection that never ends, what was written is the responses to
+    // the messages that came, in order, and a beginning of the next response: a link need allow
+    // nothing else.
     requires { IsTrue (K.tells link.old)
         → AllowsServed (option_copied token) H.does H.probes H.idles (K.allows link.old)
         handler.old (K.left link.old) (K.written link.old) }

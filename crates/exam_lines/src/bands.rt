@@ -52,8 +52,8 @@ fn push_band(
     push_items(alloc, out, band, exposure.rows.as_slice())
 }
 
-/// The lines of bands, each with its line feed, band by band from band 0 on: `band B visited V`, and for each item
-/// `band B item I shown A eligible E`. `Memory` is lack of memory.
+/// The lines of bands, each with its line feed, band by band from band 0 on: `band B visited V`,
+/// and for each item `band B item I shown A eligible E`. `Memory` is lack of memory.
 pub fn bands_text(alloc: Global, bands: &[Exposure]) -> Result<String, Memory>
     ensures { IfOk result (λ lines. string_bytes lines ≡ bands_text bands.now) }
 {

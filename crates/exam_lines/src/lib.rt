@@ -1,5 +1,6 @@
-//! The lines that sum up a history: its numbers, and its exposure by bands; and the line of a migration. Upward it promises
-//! that each is the stated text. It knows no history and prints nothing.
+//! The lines that sum up a history: its numbers, and its exposure by bands; and the line of a
+//! migration. Upward it promises that each is the stated text. It knows no history and prints
+//! nothing.
 #![tactic(auto)]
 
 mod bands;

@@ -31,7 +31,8 @@ fn forms_part(alloc: Global, summary: &Summary) -> Result<String, Memory>
 }
 
 /// The line of a summary, with its line feed:
-/// `entries E sessions S finished F proved P unproved U aside A nodes N`. `Memory` is lack of memory.
+/// `entries E sessions S finished F proved P unproved U aside A nodes N`. `Memory` is lack of
+/// memory.
 #[tactic(auto, unfolding(crate::specs::Texts::summary_text))]
 pub fn summary_line(alloc: Global, summary: &Summary) -> Result<String, Memory>
     ensures { IfOk result (λ line. string_bytes line ≡ summary_text summary.now) }

@@ -13,7 +13,7 @@ use Rattle.answer_journal.specs.Moving.{GivesEither, IsUnmoved}
 use Rattle.answer_journal.specs.Opening.{AllowsSame}
 use Rattle.answer_journal.specs.Versions.{contents, HoldsJust, HoldsOrOneMore}
 use Rattle.exam_office.specs.declared.mark.Mark.{Mark}
-use Rattle.exam_office.specs.Allowing.{AllowsHistories, GoesOn, HistoriesGoOn}
+use Rattle.exam_office.specs.Allowing.{AllowsHistories, HistoriesGoOn}
 use Rattle.exam_office.specs.Files.{payload_in, AreRecordsOf, Stands}
 use Rattle.exam_office.specs.Keeping.{IsSure, IsUnsure}
 use Rattle.exam_office.specs.Marks.{history}

@@ -1,6 +1,7 @@
--- Two backed runs with the same payloads of one version are the same: what the first version of the journal leaves out of a
--- record follows from the entries before it, and the second leaves out nothing.
-use Rattle.std.proofs.Common.{◌≡◌, inl, inr, ◌==◌, ℕ, ◌<◌, List, [], ◌∷◌, ◌++◌, map, Option, refl, sym, ap, ◌∙◌, subst, arith, append_assoc}
+-- Two backed runs with the same payloads of one version are the same: what the first version of the
+-- journal leaves out of a record follows from the entries before it, and the second leaves out
+-- nothing.
+use Rattle.std.proofs.Common.{◌≡◌, inl, inr, ◌==◌, ℕ, ◌<◌, List, [], ◌∷◌, ◌++◌, map, Option, refl, sym, ap, subst, arith, append_assoc}
 use Rattle.std.specs.Prelude.{nat_le}
 use Rattle.std.specs.List.{AllByRecursion}
 use Rattle.std.proofs.lemmas.List.Sums.{count_by-le-length}

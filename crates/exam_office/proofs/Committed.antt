@@ -1,19 +1,16 @@
 -- What was assembled may follow while the session still waits for it.
 use Rattle.std.proofs.Common.{◌≡◌, ℕ, Bool, true, false, List, [], ◌∷◌, ◌++◌, length, Option, Some, None, refl, sym, ap, ◌∙◌, subst, append_assoc}
 use Rattle.std.proofs.lemmas.List.{append-nil}
-use Rattle.bank_tables.specs.Items.{Set, has}
+use Rattle.bank_tables.specs.Items.{has}
 use Rattle.bank_tables.specs.Tables.{Tables}
 use Rattle.form_model.specs.Plan.{Plan, band_of}
 use Rattle.form_model.specs.Problem.{Problem}
 use Rattle.form_model.specs.Validity.{IsPlanFor}
-use Rattle.form_model.specs.Forms.{Form, Firm}
 use Rattle.certificate_model.specs.ProofTrees.{ProofTree}
 use Rattle.certificate_model.specs.declared.verdict.Verdict.TheVariants.{Optimal, Partial}
 use Rattle.certificate_model.specs.declared.verdict.Verdict.TheVariants as verdict
 use Rattle.constraint_model.specs.Views.{problem_of}
 use Rattle.history_model.specs.declared.entry.Entry.{Entry}
-use Rattle.history_model.specs.declared.entry.Entry.TheVariants.{SetAside, Served}
-use Rattle.history_model.specs.declared.entry.Cause.TheVariants.{NoForm as CauseNoForm, Spent}
 use Rattle.exam_session.specs.Ledgers.{Ledger, IsExamination}
 use Rattle.std.proofs.lemmas.List.Folds.{list_any-append}
 use Rattle.history_model.specs.declared.place.Place.{Place}
@@ -30,9 +27,9 @@ use Rattle.exam_office.specs.Writing.{IsMended, sure, dropped, kept}
 use Rattle.exam_office.proofs.Marking.{history-adopted}
 use Rattle.history_model.specs.Places.{place}
 use Rattle.history_model.specs.Legality.{LegalRun}
-use Rattle.history_model.specs.declared.claim.Claim.TheVariants.{FormIsBest, NoneIsForm, BudgetIsSpent}
+use Rattle.history_model.specs.declared.claim.Claim.TheVariants.{BudgetIsSpent}
 use Rattle.history_model.specs.Judging.{MayFollow, Shows, claim_of_mark}
-use Rattle.history_model.specs.SessionProblems.{is_aside_now, IsProblemOf}
+use Rattle.history_model.specs.SessionProblems.{IsProblemOf}
 use Rattle.branch_bound.specs.Assembled.{Assembly}
 use Rattle.branch_bound.specs.Assemblies.{IsShown, IsFirmOutcome}
 use Rattle.branch_bound.specs.declared.outcome.Outcome.{Outcome}

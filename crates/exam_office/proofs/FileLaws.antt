@@ -1,6 +1,5 @@
 -- A file represents at most one history, and is read and opened if it represents one.
-use Rattle.std.proofs.Common.{◌≡◌, ◌≢◌, ◌⊎◌, inl, inr, ℕ, ◌<◌, ◌≤◌, ◌==◌, true, false, List, [], ◌∷◌, ◌++◌, length, map, Option, Some, None, Ok, Err, refl, sym, ap, ◌∙◌, subst}
-use Rattle.std.specs.Prelude.{Result}
+use Rattle.std.proofs.Common.{◌≡◌, inl, inr, ℕ, ◌<◌, ◌≤◌, ◌==◌, List, [], ◌∷◌, ◌++◌, length, map, Option, Some, None, Ok, Err, refl, sym, ap, ◌∙◌, subst}
 use Rattle.std.specs.List.{AllByRecursion}
 use Rattle.std.proofs.lemmas.Bool.{cases_Bool, eqb-true, eqb-false}
 use Rattle.bank_tables.specs.Tables.{Tables}
@@ -32,7 +31,7 @@ use Rattle.exam_office.specs.declared.fault.OpenFault.{OpenFault}
 use Rattle.exam_office.specs.declared.fault.OpenFault.TheVariants.{Journal as OfJournal, Version, BadRecord, BadTree, Illegal, Disk, Memory}
 use Rattle.exam_office.specs.Files.{payload_in, counted_of, IsRecordIn, Stands}
 use Rattle.exam_office.proofs.Backing.{first_below, same_run, at}
-use Rattle.exam_office.specs.Opening.{record_in, IsReadAs, IsNotTaken, IsRefusedFor, IsRefusedFile, IsReadAnswer, IsOpenAnswer}
+use Rattle.exam_office.specs.Opening.{record_in, IsReadAs, IsNotTaken, IsRefusedFor, IsRefusedFile}
 use Rattle.exam_office.specs.Laws.{OneHistory, StandsForLegalRun, StandingIsOpened, StandingIsRead}
 
 some_counted : (c d : Counted) → Some c ≡ Some d → c ≡ d

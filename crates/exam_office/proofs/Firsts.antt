@@ -33,8 +33,8 @@ use Rattle.exam_office.proofs.Marking.{history-own}
 use Rattle.exam_office.proofs.Starts.{held_then}
 use Rattle.exam_office.proofs.Surely.{mended_none, no_longer, CallsSurely, is_refused, is_found, is_written, is_stopped, surely, call_steps, nothing_added, stopped_weaker}
 
--- why a call adds nothing: the request is refused by the tests; or it is done without an entry, with a refusal as the
--- reply; or there was no memory for what it needs before
+-- why a call adds nothing: the request is refused by the tests; or it is done without an entry,
+-- with a refusal as the reply; or there was no memory for what it needs before
 pub data IsTurned (b : Tables) (plan : Plan) (H : List Entry) (request : Request) : Refusal → Type 0 where
   by_test : (r : Refusal) → refusal_of b plan H request ≡ Some r → IsTurned b plan H request r
   by_want : (r : Refusal) → refusal_of b plan H request ≡ None → DoesUnrefused b plan H request H (Refused r) → IsRefusal r → IsTurned b plan H request r
@@ -44,8 +44,8 @@ pub data IsTurned (b : Tables) (plan : Plan) (H : List Entry) (request : Request
 pub one_test : {o : Option Refusal} (r : Refusal) → o ≡ Some r → o ≡ None → ⊥
 one_test r is none = let clash : ◌≡◌ {A = Option Refusal} (Some r) None = sym is ∙ none in absurd (cc)
 
--- what the first call of a request does: its first entry, or none; or it is refused; or it is done without an entry; or
--- it stops before that entry
+-- what the first call of a request does: its first entry, or none; or it is refused; or it is done
+-- without an entry; or it stops before that entry
 pub data IsFirst {D : Type 0} (request : Request) (Done : List Entry → Type 0) (old new : Running D) : Option Refusal → Type 0 where
   first_done : Done (history new.marks) → IsDurable old.bank old.plan new → IsFirst request Done old new None
   first_refused : (r : Refusal) → refusal_of old.bank old.plan (history old.marks) request ≡ Some r → history new.marks ≡ history old.marks

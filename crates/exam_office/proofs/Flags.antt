@@ -20,7 +20,7 @@ use Rattle.history_model.specs.declared.entry.Entry.{Entry}
 use Rattle.history_model.specs.declared.entry.Entry.TheVariants.{SetAside}
 use Rattle.history_model.specs.declared.place.Place.TheVariants.{Pending}
 use Rattle.history_model.specs.Entries.{is_set_aside, seat_of}
-use Rattle.history_model.specs.Laws.{raised, seat_with}
+use Rattle.history_model.specs.Laws.{raised}
 use Rattle.history_model.specs.Legality.{Legal, LegalRun}
 use Rattle.history_model.specs.Places.{place}
 use Rattle.history_model.specs.SessionProblems.{IsProblemOf, band_now, is_aside_now}

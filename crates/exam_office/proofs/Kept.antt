@@ -1,5 +1,5 @@
 -- What an office keeps from call to call.
-use Rattle.std.proofs.Common.{◌≡◌, ◌≢◌, max, ℕ, ◌+◌, ◌<◌, ◌≤◌, List, [], ◌∷◌, ◌++◌, map, Option, Some, None, IsTrue, refl, sym, ◌∙◌, ap, subst, arith}
+use Rattle.std.proofs.Common.{◌≡◌, max, ℕ, ◌+◌, ◌<◌, ◌≤◌, List, [], ◌∷◌, ◌++◌, map, Option, Some, None, IsTrue, refl, sym, ◌∙◌, ap, subst, arith}
 use Rattle.std.proofs.lemmas.List.{map-append}
 use Rattle.bank_tables.specs.Tables.{Tables}
 use Rattle.form_model.specs.Plan.{Plan}
@@ -15,8 +15,8 @@ use Rattle.exam_records.specs.Spelling.{payload_of}
 use Rattle.exam_office.specs.declared.mark.Mark.{Mark}
 use Rattle.exam_office.specs.declared.mark.Mark.TheVariants.{Own, Adopted, Fault}
 use Rattle.exam_office.specs.Files.{AreRecordsOf}
-use Rattle.exam_office.specs.Marks.{history, reach, AreMarks, own, fault, adopted, AreCounted}
-use Rattle.exam_office.specs.Keeping.{IsSure, IsUnsure, IsBacked, IsKept}
+use Rattle.exam_office.specs.Marks.{history, AreMarks, own, fault, adopted}
+use Rattle.exam_office.specs.Keeping.{IsSure, IsUnsure, IsKept}
 use Rattle.exam_office.specs.Moments.{IsInHand, written, failed, kept as kept_on_disk, dropped, AreMoments, one_more}
 use Rattle.exam_office.specs.Running.{HandedDisk}
 use Rattle.exam_office.specs.Writing.{IsWriting}

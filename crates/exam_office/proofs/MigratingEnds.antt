@@ -1,5 +1,5 @@
 -- A whole migration of a journal of the first version.
-use Rattle.std.proofs.Common.{◌≡◌, inl, ℕ, Bool, true, false, nat_le, drop, None, List, [], ◌∷◌, ◌++◌, length, map, Option, Some, refl, sym, ◌∙◌, ap, subst, arith}
+use Rattle.std.proofs.Common.{◌≡◌, inl, ℕ, Bool, true, false, nat_le, drop, None, List, [], length, map, Option, Some, refl, sym, ◌∙◌, ap, subst, arith}
 use Rattle.std.specs.Prelude.{nat_lt, unwrap_or, Result, Ok, Err, is_err, IfOk, IfErr, OnOk}
 use Rattle.std.proofs.lemmas.List.{length-map}
 use Rattle.bank_tables.specs.Tables.{Tables}

@@ -1,16 +1,14 @@
 -- A file that represents a history is migrated, unless it would be too long.
-use Rattle.std.proofs.Common.{◌≡◌, ◌⊎◌, inl, inr, ◌≤◌, ℕ, List, length}
+use Rattle.std.proofs.Common.{inl, inr, ◌≤◌, ℕ, List, length}
 use Rattle.bank_tables.specs.Tables.{Tables}
 use Rattle.form_model.specs.Plan.{Plan}
 use Rattle.history_model.specs.declared.entry.Entry.{Entry}
 use Rattle.exam_office.specs.declared.fault.OpenFault.{OpenFault}
 use Rattle.exam_office.specs.declared.fault.OpenFault.TheVariants.{Journal, Version, BadRecord, BadTree, Illegal, Disk as OfDisk, Memory as OfMemory}
-use Rattle.exam_office.specs.declared.migrating.MigrateFault.{MigrateFault}
 use Rattle.exam_office.specs.declared.migrating.MigrateFault.TheVariants.{Open, Full, Disk, Memory}
 use Rattle.exam_office.specs.Files.{Stands}
 use Rattle.exam_office.specs.Laws.{MigrateIsComplete}
 use Rattle.exam_office.specs.Migrating.{IsFaultOf}
-use Rattle.exam_office.specs.Opening.{IsReadAnswer}
 use Rattle.exam_office.proofs.FileLaws.{one_history, standing_is_read}
 use Rattle.exam_office.proofs.MigratingEnds.{old_stands}
 

@@ -1,5 +1,5 @@
 -- The places and lengths of a journal that is moved.
-use Rattle.std.proofs.Common.{◌≡◌, ℕ, ◌+◌, ◌≤◌, ◌<◌, List, [], ◌∷◌, ◌++◌, length, map, refl, sym, ◌∙◌, ap, arith, append_assoc, length-append, w32}
+use Rattle.std.proofs.Common.{◌≡◌, ℕ, ◌+◌, ◌<◌, List, [], ◌∷◌, ◌++◌, length, map, ◌∙◌, ap, arith, length-append, w32}
 use Rattle.std.proofs.lemmas.List.{map-append}
 use Rattle.std.specs.Int.{to_be_bytes}
 use Rattle.bank_tables.specs.Tables.{Tables}

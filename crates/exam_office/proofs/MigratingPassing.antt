@@ -1,19 +1,18 @@
 -- The records of a journal of the first version, measured before they are moved.
-use Rattle.std.proofs.Common.{◌≡◌, inl, inr, ◌==◌, ℕ, ◌+◌, ◌*◌, ◌≤◌, Bool, true, false, List, [], ◌∷◌, ◌++◌, length, map, Option, Some, None, IsTrue, refl, sym, ◌∙◌, ap, subst, arith, length-append}
+use Rattle.std.proofs.Common.{◌≡◌, inl, inr, ◌==◌, ℕ, ◌+◌, Bool, List, [], ◌∷◌, ◌++◌, length, map, Option, Some, None, IsTrue, refl, sym, ◌∙◌, ap, subst, arith, length-append}
 use Rattle.std.proofs.lemmas.Bool.{cases_Bool}
 use Rattle.std.proofs.lemmas.List.{map-append}
 use Rattle.bank_tables.specs.Tables.{Tables}
 use Rattle.form_model.specs.Plan.{Plan}
 use Rattle.history_model.specs.declared.entry.Entry.{Entry}
-use Rattle.history_model.specs.Judging.{Record}
 use Rattle.exam_records.specs.Spelling.{payload_of}
 use Rattle.answer_journal.specs.Frames.{frames, payloads}
 use Rattle.answer_journal.specs.Moving.{first}
 use Rattle.answer_journal.specs.Payload.{end_of}
 use Rattle.answer_journal.specs.Versions.{Counted, after_mark, contents, counted, counted_from, counted_in, first_place, header, uncounted, version_of}
 use Rattle.answer_journal.specs.Walk.{first_gate, first_payloads}
-use Rattle.exam_office.specs.Files.{payload_in, counted_of}
-use Rattle.exam_office.specs.Opening.{AreTaken, IsTaken}
+use Rattle.exam_office.specs.Files.{payload_in}
+use Rattle.exam_office.specs.Opening.{IsTaken}
 use Rattle.exam_office.specs.Migrating.{AreMeasured, IsOldFile, IsTakenOver, moved_file}
 use Rattle.exam_office.proofs.MigratingLengths.{end_is_after, frames_more, moved_size}
 use Rattle.exam_office.proofs.Opened.{none_taken, taken_more}

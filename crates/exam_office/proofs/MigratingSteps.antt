@@ -14,7 +14,7 @@ use Rattle.answer_journal.specs.Frames.{frames}
 use Rattle.answer_journal.specs.Moving.{IsMovingWith}
 use Rattle.answer_journal.specs.Payload.{end_of}
 use Rattle.answer_journal.specs.Walk.{IsJust}
-use Rattle.exam_office.specs.Files.{payload_in, IsRecordIn, AreRecordsOf}
+use Rattle.exam_office.specs.Files.{payload_in, IsRecordIn}
 use Rattle.exam_office.specs.Migrating.{IsMovedUpTo, IsTakenOver, moved_file}
 use Rattle.exam_office.proofs.Backing.{first_below, same_run}
 use Rattle.exam_office.proofs.MigratingLengths.{end_at, end_more, frames_length, frames_one, gate_ends, is_before, moved_size}

@@ -1,5 +1,5 @@
 -- What a crash may leave, in histories.
-use Rattle.std.proofs.Common.{◌≡◌, ◌⊎◌, inl, inr, ℕ, ◌+◌, List, [], ◌∷◌, ◌++◌, map, Option, Some, None, IsTrue, refl, sym, ◌∙◌, ap, subst, arith}
+use Rattle.std.proofs.Common.{◌≡◌, inl, inr, ℕ, ◌+◌, List, [], ◌∷◌, ◌++◌, map, Option, Some, None, IsTrue, ◌∙◌, ap, subst}
 use Rattle.bank_tables.specs.Tables.{Tables}
 use Rattle.form_model.specs.Plan.{Plan}
 use Rattle.exam_edge.specs.Images.{Account, latest, AllImages, AtEachMoment}
@@ -14,10 +14,10 @@ use Rattle.answer_journal.proofs.VersionLaws.{counted_goes_on, one_version}
 use Rattle.exam_records.specs.Shape.{IsRecord}
 use Rattle.exam_records.specs.Spelling.{payload_of}
 use Rattle.exam_office.specs.declared.mark.Mark.{Mark}
-use Rattle.exam_office.specs.Files.{AreRecordsOf, StandsSecond}
+use Rattle.exam_office.specs.Files.{StandsSecond}
 use Rattle.exam_office.specs.Marks.{history}
 use Rattle.exam_office.specs.Keeping.{IsSure, IsUnsure, IsBacked}
-use Rattle.exam_office.specs.Writing.{IsOneOf, as_before, with_doubt, IsMending, IsWriting}
+use Rattle.exam_office.specs.Writing.{as_before, with_doubt, IsMending, IsWriting}
 use Rattle.exam_office.proofs.Records.{stands_so, stands_more, writes}
 
 -- ---- what a crash may leave of a journal, in payloads that count

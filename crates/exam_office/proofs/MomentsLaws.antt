@@ -1,5 +1,5 @@
 -- What the moments of an office say of each of them.
-use Rattle.std.proofs.Common.{◌≡◌, ◌⊎◌, inl, inr, ℕ, List, [], ◌∷◌, ◌++◌, map, Option, Some, None, refl, sym, ◌∙◌, ap, subst, append_assoc}
+use Rattle.std.proofs.Common.{◌≡◌, inl, inr, ℕ, List, [], ◌∷◌, ◌++◌, map, Some, None, refl, sym, ◌∙◌, ap, subst, append_assoc}
 use Rattle.std.proofs.lemmas.List.{append-nil}
 use Rattle.bank_tables.specs.Tables.{Tables}
 use Rattle.exam_edge.specs.Images.{Account, latest}
@@ -12,7 +12,6 @@ use Rattle.exam_office.specs.Files.{IsImageOrStandsSecond, StandsSecond}
 use Rattle.exam_office.specs.Laws.{EachMomentStands, SettledMomentStands}
 use Rattle.exam_office.specs.Marks.{history, AreMarks, opened, own, fault, adopted}
 use Rattle.exam_office.specs.Moments.{IsInHand, written, failed, kept, dropped, AreMoments, opening, one_more, AreOnTheWay, IsLeftOnTheWay}
-use Rattle.exam_office.specs.Noting.{IsDoubtOf}
 use Rattle.exam_office.specs.Writing.{as_before, with_doubt, IsMending, IsWriting}
 use Rattle.exam_office.proofs.Marking.{history-own, history-fault}
 use Rattle.exam_office.proofs.Opened.{history-opened}

@@ -26,7 +26,7 @@ use Rattle.exam_office.specs.declared.mark.Mark.{Mark}
 use Rattle.exam_office.specs.declared.mark.Mark.TheVariants.{Old, Opened}
 use Rattle.exam_office.specs.declared.fault.OpenFault.{OpenFault}
 use Rattle.exam_office.specs.declared.fault.OpenFault.TheVariants.{Journal as OfJournal, Version, BadRecord, BadTree, Illegal, Disk, Memory}
-use Rattle.exam_office.specs.Files.{payload_in, counted_of, AreRecordsOf, Stands, StandsSecond}
+use Rattle.exam_office.specs.Files.{payload_in, AreRecordsOf, Stands, StandsSecond}
 use Rattle.exam_office.specs.Marks.{entry_of, history, reach, is_fault, AreMarks, opened}
 use Rattle.exam_office.specs.Keeping.{IsSure, IsKept}
 use Rattle.exam_office.specs.Moments.{AreMoments, AreOpeningMoments, opening}
@@ -234,7 +234,8 @@ second_while_opened b plan H content between a0 a1 a2 s reading same finishing =
     (weaker (λ (file : List ℕ). contents file ≡ contents between) (StandsSecond b plan H) (λ file e. second_too b plan H content file s (e ∙ ap contents same)) a1 a2
     (finishing (λ file i. at_end (λ f. f ≡ content) a0 a1 reading file i ∙ sym same)))
 
--- while it is read and finished, a crash leaves what it might have left before, or the same contents
+-- while it is read and finished, a crash leaves what it might have left before, or the same
+-- contents
 pub while_opened : (P : List ℕ → Type 0) (content between : List ℕ) (a0 a1 a2 : List Account) → ((file : List ℕ) → contents file ≡ contents content → P file)
     → AtEachMoment a0 a1 (IsImage (latest a0)) → between ≡ content → AtEachMoment a1 a2 (IsImageOrHolds (latest a1) between) → AtEachMoment a0 a2 (λ file. IsImage (latest a0) file ⊎ P file)
 while_opened P content between a0 a1 a2 so reading same finishing =

@@ -1,6 +1,5 @@
 -- Where the records of an office's journal are, and what reading them leaves.
-use Rattle.std.proofs.Common.{◌≡◌, ◌⊎◌, inl, inr, ℕ, ◌+◌, ◌-◌, ◌<◌, ◌≤◌, Bool, true, false, ◌==◌, if◌then◌else◌, List, [], ◌∷◌, ◌++◌, length, take, get_or, map, Option, Some, None, IsTrue, suc, refl, sym, ◌∙◌, ap, subst, arith, w32, length-append}
-use Rattle.std.specs.Option.{option_map}
+use Rattle.std.proofs.Common.{◌≡◌, inl, inr, ℕ, ◌+◌, ◌-◌, ◌<◌, ◌≤◌, Bool, true, false, ◌==◌, if◌then◌else◌, List, [], ◌∷◌, ◌++◌, length, take, get_or, Option, Some, None, IsTrue, suc, refl, sym, ◌∙◌, ap, subst, arith, w32, length-append}
 use Rattle.std.specs.List.{slice_get}
 use Rattle.std.specs.Int.{to_be_bytes}
 use Rattle.std.proofs.Math.Seq.{take-suc}
@@ -20,7 +19,6 @@ use Rattle.answer_journal.specs.Reading.{IsRoomFor}
 use Rattle.answer_journal.specs.Standing.{payload_list}
 use Rattle.answer_journal.specs.Versions.{header, is_mark, after_mark, Counted, counted_from, counted, counted_in, second, uncounted}
 use Rattle.answer_journal.proofs.VersionLaws.{from_second}
-use Rattle.exam_records.specs.Spelling.{payload_of}
 use Rattle.exam_office.specs.declared.cursor.Cursor.{Cursor}
 use Rattle.exam_office.specs.declared.mark.Mark.{Mark}
 use Rattle.exam_office.specs.declared.vectors.NewVector.{NewVector}

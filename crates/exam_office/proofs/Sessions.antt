@@ -1,24 +1,17 @@
 -- Sessions that are there, and the answers that are recorded.
-use Rattle.std.proofs.Common.{◌≡◌, ℕ, ◌<◌, ◌≤◌, ◌⊎◌, inl, inr, Bool, true, false, cond, not, List, [], ◌∷◌, ◌++◌, length, slice_get, get_or, Option, Some, None, refl, sym, ap, ◌∙◌, subst, arith}
+use Rattle.std.proofs.Common.{◌≡◌, ℕ, ◌<◌, Bool, true, false, cond, not, List, [], ◌∷◌, ◌++◌, length, Option, Some, None, refl, ◌∙◌}
 use Rattle.std.specs.Prelude.{nat_le}
-use Rattle.std.proofs.lemmas.Option.{slice_get-get_or}
 use Rattle.bank_tables.specs.Tables.{Tables, categories}
-use Rattle.bank_tables.specs.Validity.{IsBank}
-use Rattle.serving_model.specs.declared.seat.Seat.{Seat}
 use Rattle.form_model.specs.Plan.{Plan}
-use Rattle.serving_model.specs.Seats.{IsSeat}
 use Rattle.history_model.specs.declared.entry.Entry.{Entry}
-use Rattle.history_model.specs.declared.entry.Entry.TheVariants.{Answered, Closed}
+use Rattle.history_model.specs.declared.entry.Entry.TheVariants.{Answered}
 use Rattle.history_model.specs.declared.place.Place.{Place}
 use Rattle.history_model.specs.declared.place.Place.TheVariants.{Waiting, Complete, Closed as IsClosed}
-use Rattle.history_model.specs.Entries.{Serving, starts_session, is_started, is_closed, step_answers, seat_of, responses}
+use Rattle.history_model.specs.Entries.{Serving, is_started, is_closed, step_answers}
 use Rattle.history_model.specs.Places.{serving_at, place_at, place}
 use Rattle.history_model.specs.Judging.{MayFollow}
-use Rattle.history_model.specs.Legality.{LegalRun}
-use Rattle.history_model.specs.Laws.{SeatBeforeStart, SeatIsSeat}
 use Rattle.history_model.proofs.Pushed.{started-push}
-use Rattle.history_model.proofs.Standing.{there, before_end}
-use Rattle.history_model.specs.Refusals.{recorded}
+use Rattle.history_model.proofs.Standing.{there}
 
 none_by : (is_there closed full : Bool) (n : ℕ) (o : Option Serving) → ◌≡◌ {A = Option Place} (cond (not is_there) None (cond closed (Some IsClosed) (cond full (Some Complete) (Some (place_at n o))))) None → is_there ≡ false
 none_by false closed full n o e = refl

@@ -1,5 +1,5 @@
 -- Records as they are taken.
-use Rattle.std.proofs.Common.{◌≡◌, ℕ, List, Option, Some, None, Result, Ok, Err, refl, sym, ◌∙◌, ap, subst}
+use Rattle.std.proofs.Common.{◌≡◌, ℕ, List, refl}
 use Rattle.bank_tables.specs.Tables.{Tables}
 use Rattle.form_model.specs.Plan.{Plan}
 use Rattle.history_model.specs.declared.entry.Entry.{Entry}
@@ -11,7 +11,7 @@ use Rattle.exam_records.specs.Shape.{HasNoList, IsRecord}
 use Rattle.exam_office.specs.declared.fault.OpenFault.{OpenFault}
 use Rattle.exam_office.specs.declared.fault.OpenFault.TheVariants.{Journal as OfJournal, Version, BadRecord, BadTree, Illegal as NotLegal, Disk, Memory}
 use Rattle.exam_office.specs.Files.{payload_in}
-use Rattle.exam_office.specs.Opening.{fault_of, IsTaken, IsUnlawful, IsNotFollowing, IsReadAs, IsNotTaken, IsRefusedFor}
+use Rattle.exam_office.specs.Opening.{fault_of, IsTaken, IsNotFollowing, IsReadAs, IsNotTaken}
 
 -- a reason why a record may not follow, as a fault
 pub not_following : (b : Tables) (plan : Plan) (H : List Entry) (at : ℕ) (last : Record) (reason : Illegal) → IsIllegal b plan H last.entry last.tree reason → IsNotFollowing b plan H at last (fault_of at reason)

@@ -1,4 +1,5 @@
--- The vectors of sessions of the worked bank without stimuli, whose plan has two rows: its sides are 0 to 3.
+-- The vectors of sessions of the worked bank without stimuli, whose plan has two rows: its sides
+-- are 0 to 3.
 use Rattle.std.proofs.Common.{◌≡◌, ℕ, true, List, [], ◌∷◌, None, Some, refl}
 use Rattle.certificate_model.specs.declared.node.Node.TheVariants.{Bound}
 use Rattle.certificate_model.specs.Relaxed.{Multipliers}

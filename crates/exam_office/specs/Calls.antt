@@ -113,8 +113,8 @@ FindsStart b plan booking H (add entry) =
     (refusal_of b plan H (Begin booking) ≡ None) × (holder H booking ≡ None)
     × IsStartFor booking entry × Legal b plan H entry
 
--- why a session with a list is not started though nothing else refuses it: no form without the items
--- is known, or there was no memory to look for one
+-- why a session with a list is not started though nothing else refuses it: no form without the
+-- items is known, or there was no memory to look for one
 abbrev pub LacksWitness : Tables → Plan → List ℕ → Refusal → Type 0
 LacksWitness b plan items Memory = ⊤
 LacksWitness b plan items refusal = LacksForm b plan (has items) refusal

@@ -1,5 +1,5 @@
 -- What was assembled for a session, and the entry that it is made.
-use Rattle.std.specs.Prelude.{◌≡◌, ℕ, Bool, true, false, List, ◌++◌, length, IsFalse, Some}
+use Rattle.std.specs.Prelude.{◌≡◌, ℕ, Bool, List, ◌++◌, length, IsFalse, Some}
 use Rattle.bank_tables.specs.Items.{has}
 use Rattle.bank_tables.specs.Tables.{Tables}
 use Rattle.form_model.specs.Plan.{Plan, band_of}
@@ -18,8 +18,7 @@ use Rattle.history_model.specs.SessionProblems.{is_aside_now, IsProblemOf}
 use Rattle.branch_bound.specs.Assembled.{Assembly}
 use Rattle.branch_bound.specs.declared.outcome.Outcome.{Outcome}
 use Rattle.branch_bound.specs.declared.outcome.Outcome.TheVariants.{Found, NoForm, NoneFound}
-use Rattle.history_model.specs.declared.refusal.Refusal.{Refusal}
-use Rattle.history_model.specs.declared.refusal.Refusal.TheVariants.{Stale, Memory}
+use Rattle.history_model.specs.declared.refusal.Refusal.TheVariants.{Stale}
 use Rattle.exam_office.specs.Calls.{Finding, refuse, nothing, add}
 
 -- a session waits for the item of a step, with eligibility set aside or not in the band of its

@@ -1,5 +1,5 @@
 -- How an examination is, and what a look at it does to an office.
-use Rattle.std.specs.Prelude.{◌≡◌, ℕ, ◌-◌, List, length, Result, Ok, Err}
+use Rattle.std.specs.Prelude.{◌≡◌, ◌-◌, List, length, Result, Ok, Err}
 use Rattle.form_model.specs.Plan.{Plan}
 use Rattle.history_model.specs.Counts.{finished}
 use Rattle.history_model.specs.Entries.{sessions}

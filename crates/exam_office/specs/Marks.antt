@@ -1,5 +1,5 @@
 -- The marks of an office.
-use Rattle.std.specs.Prelude.{◌≡◌, ℕ, ◌+◌, ◌-◌, ◌^◌, ◌≤◌, min, Bool, true, false, List, [], ◌∷◌, ◌++◌, map, fold, count_by, Option, Some, None}
+use Rattle.std.specs.Prelude.{ℕ, ◌+◌, ◌-◌, ◌^◌, ◌≤◌, min, Bool, true, false, List, [], ◌∷◌, ◌++◌, map, fold, count_by, Option, Some, None}
 use Rattle.std.specs.List.{filter_map}
 use Rattle.history_model.specs.declared.entry.Entry.{Entry}
 use Rattle.exam_office.specs.declared.mark.Mark.{Mark}

@@ -1,5 +1,5 @@
 -- How a journal of the first version is moved to the second.
-use Rattle.std.specs.Prelude.{◌≡◌, ◌⊎◌, ◌==◌, if◌then◌else◌, ℕ, ◌+◌, ◌<◌, Bool, IsTrue, List, [], ◌∷◌, ◌++◌, length, map, Some}
+use Rattle.std.specs.Prelude.{◌≡◌, ◌⊎◌, ◌==◌, if◌then◌else◌, ℕ, ◌+◌, ◌<◌, Bool, List, [], ◌∷◌, ◌++◌, length, map, Some}
 use Rattle.bank_tables.specs.Tables.{Tables}
 use Rattle.form_model.specs.Plan.{Plan}
 use Rattle.exam_edge.specs.Images.{Account, IsSettled}

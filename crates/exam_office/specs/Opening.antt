@@ -13,7 +13,7 @@ use Rattle.answer_journal.specs.OpenFault.{fault_in}
 use Rattle.answer_journal.specs.declared.open_fault.OpenFault.{OpenFault as JournalFault}
 use Rattle.answer_journal.specs.declared.open_fault.OpenFault.TheVariants.{Disk as OfDisk, Version as OfVersion, Memory as OfMemory}
 use Rattle.answer_journal.specs.Payload.{end_of}
-use Rattle.answer_journal.specs.Versions.{Counted, contents, counted_in}
+use Rattle.answer_journal.specs.Versions.{contents, counted_in}
 use Rattle.answer_journal.specs.Walk.{first_gate, first_payloads}
 use Rattle.exam_records.specs.declared.fault.RecordFault.{RecordFault}
 use Rattle.exam_office.specs.declared.fault.OpenFault.{OpenFault}

@@ -9,11 +9,11 @@ use Rattle.exam_records.specs.Shape.{IsRecord}
 use Rattle.exam_records.specs.Spelling.{payload_of}
 use Rattle.answer_journal.specs.Journal.{faults_of}
 use Rattle.exam_office.specs.declared.mark.Mark.{Mark}
-use Rattle.exam_office.specs.declared.mark.Mark.TheVariants.{Own, Adopted, Fault}
+use Rattle.exam_office.specs.declared.mark.Mark.TheVariants.{Adopted, Fault}
 use Rattle.history_model.specs.declared.refusal.Refusal.{Refusal}
 use Rattle.history_model.specs.declared.refusal.Refusal.TheVariants.{JournalFull, Disk, Memory}
 use Rattle.exam_office.specs.Files.{StandsSecond}
-use Rattle.exam_office.specs.Marks.{reach, history}
+use Rattle.exam_office.specs.Marks.{reach}
 use Rattle.exam_office.specs.Running.{Running}
 
 -- the histories that an office may go on from while this entry, if any, is in doubt: its own, or

@@ -1,7 +1,7 @@
 //! The office of one thread.
 
 ghost use Rattle.std.specs.Prelude.{◌≡◌};
-ghost use Rattle.exam_office.specs.Asking.{IsAsked, IsSettledReply};
+ghost use Rattle.exam_office.specs.Asking.{IsAsked};
 ghost use Rattle.exam_handler.specs.Handling.{IsReply};
 
 use crate::office::Office;

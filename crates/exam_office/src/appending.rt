@@ -33,7 +33,8 @@ pub enum Taken {
     Disk,
 }
 
-/// Why a record was not taken, by the refusal of mending or of writing it: out of memory, a full journal, or the disk.
+/// Why a record was not taken, by the refusal of mending or of writing it: out of memory, a full
+/// journal, or the disk.
 fn fault_of(refusal: Refusal) -> Taken
     ensures { result ≡ taken_by refusal }
 {
@@ -56,9 +57,10 @@ impl<'a, D: Disk> Office<'a, D> {
         self.book.judge(rec)
     }
 
-    /// Appends a record that another office wrote, if it may follow: resolves the entry in doubt first, and judges the
-    /// record after the history that is there then. At `Ok` it is on the disk. Before the other answers than `Disk` nothing
-    /// is written but what mending writes. That an entry is of this office's base form is not asked.
+    /// Appends a record that another office wrote, if it may follow: resolves the entry in doubt
+    /// first, and judges the record after the history that is there then. At `Ok` it is on the
+    /// disk. Before the other answers than `Disk` nothing is written but what mending writes. That
+    /// an entry is of this office's base form is not asked.
     pub fn append_record(&mut self, alloc: Global, rec: &Record) -> Result<(), Taken>
         ensures same { IsSameOffice self.old self.new }
         ensures appended { OnOk result (IsAppended self.old self.new rec.now) }
@@ -71,7 +73,8 @@ impl<'a, D: Disk> Office<'a, D> {
             (IsLeft self.old.bank self.old.plan
             (FindsRecord self.old.bank self.old.plan rec.now)
             (history self.old.marks) self.old.doubt) }
-        // Where nothing was in doubt before, by the payloads of the journal. What `settle` does to them is in its clauses.
+        // Where nothing was in doubt before, by the payloads of the journal. What `settle` does to
+        // them is in its clauses.
         ensures payloads { OnOk result (self.old.doubt ≡ None → IsTrue (tells_of self.old.journal)
             → payloads_of self.new.journal
             ≡ payloads_of self.old.journal ++ payload_of rec.now ∷ []) }

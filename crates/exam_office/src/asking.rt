@@ -26,7 +26,8 @@ impl<'a, D: Disk> Office<'a, D> {
         }
     }
 
-    /// Does what a request asks: its first entry, and then the item of a session that waits for one.
+    /// Does what a request asks: its first entry, and then the item of a session that waits for
+    /// one.
     pub(crate) fn ask_surely(&mut self, alloc: Global, request: &Request) -> Reply
         requires { IsDurable self.old.bank self.old.plan self.old }
         ensures { IsAskedSurely self.old request.now result self.new }

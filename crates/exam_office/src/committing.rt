@@ -1,7 +1,7 @@
 //! What was assembled is made an entry.
 
-ghost use Rattle.std.specs.Prelude.{◌≡◌, ◌↔◌, ◌≤◌, ℕ, true, Some, IsTrue, IfOk, IfErr, IfSome, IfNone, OnOk};
-ghost use Rattle.bank_tables.specs.Items.{Set, has};
+ghost use Rattle.std.specs.Prelude.{◌≡◌, ◌↔◌, true, Some, IsTrue, IfOk, IfErr, IfSome, IfNone, OnOk};
+ghost use Rattle.bank_tables.specs.Items.{Set};
 ghost use Rattle.exam_edge.specs.Lent.{IsLent};
 ghost use Rattle.exam_edge.specs.Images.{AllImages, AtEachMoment, latest};
 ghost use Rattle.form_model.specs.Forms.{Form};

@@ -1,6 +1,7 @@
 //! A place in the records of an office's journal.
 
-/// The place of a record that is read next. Where nothing is in doubt, `Office::cursor` gives that of the first one.
+/// The place of a record that is read next. Where nothing is in doubt, `Office::cursor` gives that
+/// of the first one.
 #[derive(Clone, Copy, Debug, PartialEq, Eq)]
 pub struct Cursor {
     /// How many records are before it: its number, from 0.

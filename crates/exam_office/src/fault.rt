@@ -5,8 +5,8 @@ use exam_records::RecordFault;
 use history_model::Illegal;
 
 /// Why an office was not opened. Of several faults of one file the first is given: those of its
-/// frames, then its version, then those of its records, one record after another. A place is that of
-/// the record's gate, in bytes from the start of the file.
+/// frames, then its version, then those of its records, one record after another. A place is that
+/// of the record's gate, in bytes from the start of the file.
 #[derive(Clone, Copy, Debug, PartialEq, Eq)]
 pub enum OpenFault {
     /// The file is no journal. The fault is none of `Disk`, `Version` and `Memory`.

@@ -12,8 +12,8 @@ pub fn one_history()
     ensures { OneHistory }
 {}
 
-/// A disk may allow just that a file comes of another whose history it represents, with or without further entries. Then it
-/// allows what an office asks at its opening.
+/// A disk may allow just that a file comes of another whose history it represents, with or without
+/// further entries. Then it allows what an office asks at its opening.
 pub fn histories_go_on()
     ensures { (b : Tables) (plan : Plan) → HistoriesGoOn b plan }
 {}

@@ -1,5 +1,6 @@
-//! How a journal of the first version is moved to the second. What is not changed up to the end is the old records and their
-//! closed gate: the new ones are written after it, and count once the journal opens that gate.
+//! How a journal of the first version is moved to the second. What is not changed up to the end is
+//! the old records and their closed gate: the new ones are written after it, and count once the
+//! journal opens that gate.
 
 ghost use Rattle.std.specs.Prelude.{◌≡◌, ◌≢◌, ◌⊎◌, ◌+◌, ◌<◌, ◌≤◌, ◌^◌, ℕ, List, [], ◌∷◌, ◌++◌, length, map, Some, None, IsTrue, IfOk, IfErr, OnOk};
 ghost use Rattle.exam_edge.specs.Faults.{Rose};
@@ -36,7 +37,8 @@ use std::alloc::Global;
 /// What a migration did: how many records it wrote, and the length of the file now, in bytes.
 #[derive(Clone, Copy, Debug, PartialEq, Eq)]
 pub struct Moved {
-    /// The records that were written by the second version; none where the file had such records already.
+    /// The records that were written by the second version; none where the file had such records
+    /// already.
     pub records: u64,
     /// The length of the file, in bytes.
     pub length: u64,
@@ -45,7 +47,8 @@ pub struct Moved {
 /// Why a journal was not moved.
 #[derive(Clone, Copy, Debug, PartialEq, Eq)]
 pub enum MigrateFault {
-    /// The journal was not opened. The fault is none of `Version`, `Disk` and `Memory`. Nothing was written.
+    /// The journal was not opened. The fault is none of `Version`, `Disk` and `Memory`. Nothing was
+    /// written.
     Open(OpenFault),
     /// The journal would have this length in bytes, above its limit. Nothing was written.
     Full(u64),
@@ -704,7 +707,8 @@ pub fn migrate<D: Disk>(
     ensures unwritten { IfErr result (λ e. IsOfContent e.1 → IsTrue (D.tells disk)
         → AtEachMoment (D.accounts disk) (D.accounts e.0)
         (IsImage (latest (D.accounts disk)))) }
-    // At any fault nothing was written, unless the file represents a history by records of the first version.
+    // At any fault nothing was written, unless the file represents a history by records of the
+    // first version.
     ensures unwritten_err { IfErr result (λ e. IsTrue (D.tells disk)
         → IsOldFile bank.now spec.now (D.content disk)
         ⊎ ((D.content e.0 ≡ D.content disk) × AtEachMoment (D.accounts disk) (D.accounts e.0)

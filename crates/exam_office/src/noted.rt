@@ -7,8 +7,8 @@ use constraint_model::Spec;
 use exam_edge::Disk;
 use std::marker::Model;
 
-/// A mark, and what its office was opened with. An office's history is a list of these, in contracts alone: no value of
-/// this type is ever made.
+/// A mark, and what its office was opened with. An office's history is a list of these, in
+/// contracts alone: no value of this type is ever made.
 #[derive(Drop)]
 pub struct Noted<'a, D: Disk> {
     mark: Mark,

@@ -37,7 +37,8 @@ use std::alloc::Global;
 impl<'a, D: Disk> Office<'a, D> {
     /// Opens an office over a disk: reads the journal, and takes each record that may follow those
     /// before it, with one record in memory. Only then it makes the file a journal that ends with
-    /// its first closed gate. A journal of the first version that was not moved is refused. The base is a form of the plan alone. The disk is as a reboot or a journal left it. A refusal
+    /// its first closed gate. A journal of the first version that was not moved is refused. The
+    /// base is a form of the plan alone. The disk is as a reboot or a journal left it. A refusal
     /// gives the disk back.
     pub fn open(
         alloc: Global,
@@ -74,7 +75,8 @@ impl<'a, D: Disk> Office<'a, D> {
         ensures images { IfOk result (λ office. IsTrue (D.tells disk)
             → AllImages (StandsSecond bank.now spec.now (history office.marks))
             (latest (accounts_of office.journal))) }
-        // While it was opened, each such file represented the history, or is one that a crash might have left before.
+        // While it was opened, each such file represented the history, or is one that a crash might
+        // have left before.
         ensures moments { IfOk result (λ office. IsTrue (D.tells disk)
             → AreOpeningMoments bank.now spec.now (history office.marks)
             (latest (D.accounts disk)) (D.accounts disk) (accounts_of office.journal)) }

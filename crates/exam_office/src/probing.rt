@@ -1,6 +1,6 @@
 //! How an examination is, and a look at it.
 
-ghost use Rattle.std.specs.Prelude.{◌≡◌, ◌≤◌, IfErr};
+ghost use Rattle.std.specs.Prelude.{◌≡◌, IfErr};
 ghost use Rattle.exam_handler.specs.Handling.{IsProbeRefusal};
 ghost use Rattle.exam_office.specs.Health.{IsProbed, health};
 

@@ -25,8 +25,9 @@ impl<'a, D: Disk> Office<'a, D> {
         self.book.entries()
     }
 
-    /// What its journal has, as a law: while nothing is in doubt, the payloads of records of the history, in order. Its
-    /// length is that of the last mark that has one, and its limit that of the plan.
+    /// What its journal has, as a law: while nothing is in doubt, the payloads of records of the
+    /// history, in order. Its length is that of the last mark that has one, and its limit that of
+    /// the plan.
     pub fn holds(&self)
         ensures records { self.now.doubt ≡ None → HoldsRecords self.now }
         // Each file that a crash may leave has these payloads.
@@ -56,10 +57,11 @@ impl<'a, D: Disk> Office<'a, D> {
         }
     }
 
-    /// The payload of the record at a cursor, of the second version, and moves the cursor on to the next one; `None` exactly
-    /// at the end. No entry may be in doubt, and the cursor is one of this office. After `Disk` or `Memory`, the only
-    /// refusals, the cursor is where it was. The journal is not changed. Only of a disk that does not report its content
-    /// the record may not be there any more: then there is none.
+    /// The payload of the record at a cursor, of the second version, and moves the cursor on to the
+    /// next one; `None` exactly at the end. No entry may be in doubt, and the cursor is one of this
+    /// office. After `Disk` or `Memory`, the only refusals, the cursor is where it was. The journal
+    /// is not changed. Only of a disk that does not report its content the record may not be there
+    /// any more: then there is none.
     pub fn next_record(
         &mut self,
         alloc: Global,

@@ -96,11 +96,13 @@ impl<'a, D: Disk> Office<'a, D> {
         self.spec
     }
 
-    /// What the type keeps, as a law: the plan is valid for the bank; the history is a legal run; the marks are in order;
-    /// there are no more faults among them than the disk's count rose since it was handed in, and that count is no lower; an
-    /// entry in doubt is that of the last mark, a fault. The base is a form of the plan alone. While the office was opened,
-    /// each file that a crash may leave represents the history that was found, or is one that a crash might have left
-    /// before. At each moment since, it represents the history of the marks so far, or that with the one entry in hand.
+    /// What the type keeps, as a law: the plan is valid for the bank; the history is a legal run;
+    /// the marks are in order; there are no more faults among them than the disk's count rose since
+    /// it was handed in, and that count is no lower; an entry in doubt is that of the last mark, a
+    /// fault. The base is a form of the plan alone. While the office was opened, each file that a
+    /// crash may leave represents the history that was found, or is one that a crash might have
+    /// left before. At each moment since, it represents the history of the marks so far, or that
+    /// with the one entry in hand.
     pub fn keeps(&self)
         ensures plan { IsPlanFor self.now.bank self.now.plan }
         ensures run { LegalRun self.now.bank self.now.plan (history self.now.marks) }

@@ -1,6 +1,6 @@
 //! Starts and closings.
 
-ghost use Rattle.std.specs.Prelude.{◌≡◌, ◌≤◌, true, Some, None, IsTrue, IfOk, IfErr, OnOk};
+ghost use Rattle.std.specs.Prelude.{◌≡◌, true, Some, None, IsTrue, IfOk, IfErr, OnOk};
 ghost use Rattle.bank_tables.specs.Items.{has, AreWords};
 ghost use Rattle.exam_edge.specs.Lent.{IsLent};
 ghost use Rattle.exam_edge.specs.Images.{AllImages, AtEachMoment, latest};
@@ -13,7 +13,7 @@ ghost use Rattle.answer_journal.specs.Journal.{tells_of, accounts_of, faults_of,
 ghost use Rattle.exam_office.specs.Files.{StandsSecond};
 ghost use Rattle.exam_office.specs.Marks.{history};
 ghost use Rattle.exam_office.specs.Writing.{IsSameOffice};
-ghost use Rattle.exam_office.specs.Calls.{refuse, nothing, add, Calls, FindsStart, FindsStartWithout, FindsClosing, IsWitness, IsStartWithout, IsStartFound, IsStartWithoutFound, IsFreshly, IsFreshlyBy, IsLeft, refused_with};
+ghost use Rattle.exam_office.specs.Calls.{refuse, add, Calls, FindsStart, FindsStartWithout, FindsClosing, IsWitness, IsStartWithout, IsStartFound, IsStartWithoutFound, IsFreshly, IsFreshlyBy, IsLeft, refused_with};
 
 use crate::begun::Begun;
 use crate::office::Office;

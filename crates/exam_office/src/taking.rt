@@ -1,6 +1,6 @@
 //! The records of a file, taken into a book one after another.
 
-ghost use Rattle.std.specs.Prelude.{◌≡◌, ◌⊎◌, ◌+◌, List, [], ◌∷◌, ◌++◌, map, Some, Err, IsTrue, IfOk, IfErr, OnOk};
+ghost use Rattle.std.specs.Prelude.{◌≡◌, ◌⊎◌, ◌+◌, [], ◌∷◌, ◌++◌, map, Some, Err, IsTrue, IfOk, IfErr, OnOk};
 ghost use Rattle.std.specs.Option.{is_some};
 ghost use Rattle.exam_edge.specs.Faults.{Rose};
 ghost use Rattle.exam_edge.specs.Lent.{IsLent};
@@ -220,8 +220,8 @@ fn take_records<D: Disk>(
 }
 
 /// Judges each record of a file of either version that is walked over, its proof tree included, and
-/// takes it into a new book, with one record in memory. It gives the book, and the marks of an office opened with
-/// it: the entries found, and the length of the journal. It writes nothing.
+/// takes it into a new book, with one record in memory. It gives the book, and the marks of an
+/// office opened with it: the entries found, and the length of the journal. It writes nothing.
 pub fn take_history<'a, D: Disk>(
     alloc: Global,
     bank: &'a Bank,

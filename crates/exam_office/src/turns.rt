@@ -1,14 +1,12 @@
 //! An office under a turn lock.
 
-ghost use Rattle.std.specs.Prelude.{◌≡◌, length};
-
 use crate::noted::Noted;
 use crate::office::Office;
 use exam_edge::Disk;
 use turn_lock::Kept;
 
-/// The history of an office is its list of marks, each with what the office was opened with: nothing else is known of
-/// an office under a lock.
+/// The history of an office is its list of marks, each with what the office was opened with:
+/// nothing else is known of an office under a lock.
 impl<'a, D: Disk> Kept for Office<'a, D> {
     ghost use Rattle.exam_office.specs.Noting.{noted, opened_with};
 

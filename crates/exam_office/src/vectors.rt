@@ -118,7 +118,8 @@ impl Vectors {
         Ok(())
     }
 
-    /// A copy of what the record of an entry and its tree makes a session's vector, and room for it.
+    /// A copy of what the record of an entry and its tree makes a session's vector, and room for
+    /// it.
     pub fn prepare(
         &mut self,
         alloc: Global,

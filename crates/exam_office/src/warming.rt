@@ -1,7 +1,6 @@
 //! The vector that the search for a session's next form may begin with.
 
 ghost use Rattle.std.specs.Prelude.{◌≡◌, None, IfOk, IfErr, IfSome};
-ghost use Rattle.history_model.specs.declared.refusal.Refusal.TheVariants.{Memory as OutOfMemory};
 ghost use Rattle.history_model.specs.declared.request.Request.TheVariants.{Look};
 ghost use Rattle.history_model.specs.Refusals.{refusal_of};
 ghost use Rattle.exam_office.specs.Marks.{history};

@@ -14,8 +14,8 @@ use exam_session::{is_list, whole_without};
 use history_model::Refusal;
 use std::alloc::Global;
 
-/// Whether a form without the items of a list is to be searched for: the set is a list for the bank,
-/// and the base has one of its items.
+/// Whether a form without the items of a list is to be searched for: the set is a list for the
+/// bank, and the base has one of its items.
 #[tactic(auto, using(crate::proofs::Witnesses::no_base_so))]
 pub fn needs_search(bank: &Bank, spec: &Spec, base: &ItemSet, items: &ItemSet) -> bool
     requires plan { IsPlanFor bank.now spec.now }
@@ -60,7 +60,8 @@ pub fn search_witness(
 
 /// A form without the items of a list, which shows that a session may be started with the list. It
 /// is the base if that has none of them, and else the form that the assembler finds within the
-/// plan's node budget for a base form. It depends on the bank, the plan, the base and the list alone.
+/// plan's node budget for a base form. It depends on the bank, the plan, the base and the list
+/// alone.
 ///
 /// Refused with `NoForm` if there is no such form, with `NoneFound` if none was found within the
 /// budget, with `Memory` without memory for the search, and with nothing else. If the set is no

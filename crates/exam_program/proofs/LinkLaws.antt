@@ -384,7 +384,8 @@ any_leaves Serves Unused Follows Ships words o told old new result (inr (inr s))
 module _ {D K : Type 0} (tells : D → Bool) (coming returned : D → List K) (is_out : D → Bool)
     (faults identity : D → ℕ) (link_tells : K → Bool) (left written : K → List ℕ) (link_faults link_identity : K → ℕ)
     (doors back : List D) (final : Held) (end : DoorEnd) where
-  -- by the bank, the plan, the records and entries that were found, the length then, and the records held at first
+  -- by the bank, the plan, the records and entries that were found, the length then, and the
+  -- records held at first
   abbrev FollowedFrom : Tables → Plan → List (List ℕ) → List Entry → ℕ → Held → Type 0
   FollowedFrom b p ps H n held = IsFirstOnly
       (λ door after. IsFollowedDoor tells coming returned is_out faults identity link_tells left written link_faults link_identity

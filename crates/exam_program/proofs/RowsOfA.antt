@@ -1,5 +1,5 @@
--- The definitions of a replay, computed on the worked session of bank A: its lines, its history, its file, and what a crash
--- may leave; and on a disk that fails at the first write.
+-- The definitions of a replay, computed on the worked session of bank A: its lines, its history,
+-- its file, and what a crash may leave; and on a disk that fails at the first write.
 use Rattle.std.proofs.Common.{◌≡◌, ℕ, zero, suc, ◌^◌, ◌<◌, ◌≤◌, nat_le, Bool, true, false, inl, inr, List, [], ◌∷◌, ◌++◌, length, map, get_or, Option, None, Some, refl, sym, ap, ◌∙◌, subst, codes, arith}
 use Rattle.std.proofs.Math.Dec.{lit≤}
 use Rattle.std.specs.List.{AllByRecursion}
@@ -64,7 +64,8 @@ lines_a : lines_of replies_a ≡ codes "session 0 step 0 item 2 proved\nsession 
 unfolding replies_a line_of place_line digits
 lines_a = refl
 
--- ---- the history of the session, with a set of items for each of eight bands, as a journal spells it; the plan has one band
+-- ---- the history of the session, with a set of items for each of eight bands, as a journal spells
+-- it; the plan has one band
 unfoldable eligible_a : Bands
 eligible_a = record { count = 1; sets = one_word 63 ∷ one_word 0 ∷ one_word 0 ∷ one_word 0 ∷ one_word 0 ∷ one_word 0 ∷ one_word 0 ∷ one_word 0 ∷ [] }
 
@@ -475,7 +476,8 @@ replayed_a = record {
   };
 }
 
--- ---- a disk that fails at the first write of an empty journal: any file of at most nine bytes may be left
+-- ---- a disk that fails at the first write of an empty journal: any file of at most nine bytes may
+-- be left
 torn : List ℕ → DiskSeen
 torn left = record { told = true; before = 0; after = 1; found = []; left = left; images_before = settled []; images = written 0 9 (settled []); moments_before = settled [] ∷ []; moments = settled [] ∷ written 0 9 (settled []) ∷ [] }
 

@@ -69,8 +69,8 @@ module _ {D K : Type 0} (tells : D → Bool) (coming returned : D → List K) (i
 
 -- a follower's journal was opened, links were followed, and this is printed at the end. The records
 -- found are those of the file. The records in the end are those of the history H, for which the
--- file stands, or, with one record in doubt, for H with that one. If each link ended well, the count
--- and the numbers printed are those of H
+-- file stands, or, with one record in doubt, for H with that one. If each link ended well, the
+-- count and the numbers printed are those of H
 pub record IsFollowedBy (words : List (List ℕ)) (o : Outside) (work : FollowSeen) (status : ℕ)
     (text : List ℕ) : Type 0 where
   pub base : List ℕ

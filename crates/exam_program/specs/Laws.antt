@@ -194,8 +194,8 @@ MigrateIsComplete =
     → Outcome words o status text
     → (status ≡ 0) ⊎ (status ≡ 10)
 
--- series, where the weights are the grid's, prints a series or shows that there is none, or has spent
--- the base budget with none found, or memory ran out
+-- series, where the weights are the grid's, prints a series or shows that there is none, or has
+-- spent the base budget with none found, or memory ran out
 abbrev pub SeriesIsComplete : Type 0
 SeriesIsComplete =
     (words : List (List ℕ)) (o : Outside) (bank plan : List ℕ) (forms : ℕ) (word : List ℕ)

@@ -362,8 +362,8 @@ abbrev pub IsStatusBefore : ℕ → Type 0
 IsStatusBefore status = IsTrue (list_any (λ s. s == status)
     (2 ∷ 3 ∷ 4 ∷ 5 ∷ 7 ∷ 11 ∷ 12 ∷ 16 ∷ 17 ∷ 18 ∷ []))
 
--- a run with this status ended by this halt, and what it shows is so; or by none. Then it refused no
--- text but its words, and has status 6 only if it follows or ships
+-- a run with this status ended by this halt, and what it shows is so; or by none. Then it refused
+-- no text but its words, and has status 6 only if it follows or ships
 abbrev pub EndsAs : List (List ℕ) → Outside → Option Halt → ℕ → Type 0
 EndsAs words o (Some h) status = Shows words o h × (EndsBy h status ⊎ (status ≡ 8))
 EndsAs words o None status = (IsStatusBefore status → status ≡ 2)

@@ -83,9 +83,9 @@ pub record IsReached (b : Tables) (plan : Plan) (base : List ℕ) (script : List
 abbrev pub IsFileOnTheWay : Tables → Plan → List ℕ → List Request → List Entry → List ℕ → Type 0
 IsFileOnTheWay b plan base script H file = StandsForOne b plan (IsReached b plan base script H) file
 
--- the moments of a replay, from the last of those before it. While the journal was opened, each file
--- that a crash may leave represents the history that was found, or is one that a crash might have
--- left before. From then on it represents a history on the way of the script
+-- the moments of a replay, from the last of those before it. While the journal was opened, each
+-- file that a crash may leave represents the history that was found, or is one that a crash might
+-- have left before. From then on it represents a history on the way of the script
 pub record AreMomentsOfReplay (b : Tables) (plan : Plan) (base : List ℕ) (disk : DiskSeen)
     (script : List Request) (H : List Entry) : Type 0 where
   pub opened : List Account

@@ -90,8 +90,8 @@ pub record WorkSeen : Type 0 where
   pub end : End
 
 -- what is printed after the work, with the status: the numbers of the history, or that memory for
--- them ran out, or that the disk failed; or that a door failed. The status of the numbers is 10 if a
--- connection ended for lack of memory
+-- them ran out, or that the disk failed; or that a door failed. The status of the numbers is 10 if
+-- a connection ended for lack of memory
 pub data IsLast (plan : Plan) (H : List Entry) : End → ℕ → List ℕ → Type 0 where
   numbers : IsLast plan H Done 0 (summary_text (summary plan H))
   no_numbers : IsLast plan H Done 10 no_memory

@@ -45,8 +45,8 @@ module _ {D K : Type 0} (tells : D → Bool) (coming returned : D → List K) (i
       (work.end ≡ NoLink) doors back
 
 -- a shipper's journal was opened, records were shipped, and this is printed at the end. The records
--- are those of the file, and spell its history H, as many as it has entries. The file stands for the
--- same history afterwards: the marks of the office are those of its opening
+-- are those of the file, and spell its history H, as many as it has entries. The file stands for
+-- the same history afterwards: the marks of the office are those of its opening
 pub record IsShippedBy (words : List (List ℕ)) (o : Outside) (work : ShipSeen) (status : ℕ)
     (text : List ℕ) : Type 0 where
   pub b : Tables

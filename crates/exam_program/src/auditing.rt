@@ -48,7 +48,8 @@ fn bands_part(alloc: Global, spec: &Spec, bands: &[Exposure]) -> Option<String>
     bands_text(alloc, bands).ok()
 }
 
-/// The lines of an audit: the numbers of the history, and its exposure counts, in all and in each band.
+/// The lines of an audit: the numbers of the history, and its exposure counts, in all and in each
+/// band.
 #[tactic(auto, unfolding(crate::specs::Texts::audit_text))]
 fn audit_text(
     alloc: Global,
@@ -65,8 +66,8 @@ fn audit_text(
     joined(alloc, &text, part.as_bytes())
 }
 
-/// Judges every record of the journal on a disk, by a bank and a plan, and prints the numbers of its history and its exposure
-/// counts, in all and in each band. It gives the disk back.
+/// Judges every record of the journal on a disk, by a bank and a plan, and prints the numbers of
+/// its history and its exposure counts, in all and in each band. It gives the disk back.
 fn audit_exam<O: Sink, D: Disk>(
     alloc: Global,
     bank: &Bank,
@@ -102,8 +103,8 @@ fn audit_exam<O: Sink, D: Disk>(
     }
 }
 
-/// Judges every record of the journal on a disk, and prints the numbers of its history and its exposure counts, in all and in
-/// each band. It gives the disk back.
+/// Judges every record of the journal on a disk, and prints the numbers of its history and its
+/// exposure counts, in all and in each band. It gives the disk back.
 pub(crate) fn audit_journal<F: Files, O: Sink, D: Disk>(
     alloc: Global,
     files: &mut F,

@@ -15,7 +15,8 @@ use branch_bound::{Assembled, Memory, Outcome, assemble};
 use constraint_model::{Problem, Spec};
 use std::alloc::Global;
 
-/// Assembles the whole problem within the base budget, with the plan's base, if there is one, as the hint.
+/// Assembles the whole problem within the base budget, with the plan's base, if there is one, as
+/// the hint.
 fn whole_assembly<'a>(
     alloc: Global,
     bank: &'a Bank,
@@ -30,7 +31,8 @@ fn whole_assembly<'a>(
     assemble(alloc, problem, base.as_ref(), spec.base_budget() as u16)
 }
 
-/// An assembly of the whole problem that found a form, the form, and whether it is proved best; or why none was found.
+/// An assembly of the whole problem that found a form, the form, and whether it is proved best; or
+/// why none was found.
 fn found_form<'a>(
     alloc: Global,
     bank: &'a Bank,
@@ -55,7 +57,8 @@ fn found_form<'a>(
     }
 }
 
-/// The base form: the plan's, or, where it has none, one that the assembly of the whole problem finds.
+/// The base form: the plan's, or, where it has none, one that the assembly of the whole problem
+/// finds.
 pub(crate) fn base_form<'a>(alloc: Global, bank: &'a Bank, spec: &'a Spec) -> Result<ItemSet, Halt>
     requires plan { IsPlanFor bank.now spec.now }
     ensures base { IfOk result (IsBaseForm bank.now spec.now) }

@@ -41,7 +41,8 @@ fn halt_of_drill(fault: DrillFault) -> Halt
     }
 }
 
-/// Makes an examination of so many sessions from a number, gives it, and prints the numbers of its history.
+/// Makes an examination of so many sessions from a number, gives it, and prints the numbers of its
+/// history.
 pub(crate) fn drill<O: Sink>(
     alloc: Global,
     out: &mut O,

@@ -30,7 +30,8 @@ use record_doors::follow_first;
 use std::alloc::Global;
 use std::sync::Wait;
 
-/// Opens a follower on a disk, takes the records of the links of the first door into it, and prints how that ended.
+/// Opens a follower on a disk, takes the records of the links of the first door into it, and prints
+/// how that ended.
 fn follow_over<'a, R: Wait, O: Sink, D: Disk, L: Door>(
     rt: &R,
     alloc: Global,
@@ -104,8 +105,8 @@ fn follow_over<'a, R: Wait, O: Sink, D: Disk, L: Door>(
     }
 }
 
-/// Takes the records of the links of the first door into the journal on a disk, and prints how that ended. It gives the disk
-/// and the doors back.
+/// Takes the records of the links of the first door into the journal on a disk, and prints how that
+/// ended. It gives the disk and the doors back.
 pub(crate) fn follow<R: Wait, F: Files, O: Sink, D: Disk, L: Door>(
     rt: &R,
     alloc: Global,

@@ -22,14 +22,17 @@ pub enum Halt {
     Script(ScriptFault),
     /// No set of items is a form of the whole problem: the tree that shows it.
     NoForm(Tree),
-    /// No form of the whole problem was found within the base budget, in nodes: the tree that spends it.
+    /// No form of the whole problem was found within the base budget, in nodes: the tree that
+    /// spends it.
     NoBaseForm { budget: u32, tree: Tree },
-    /// The journal's file represents no history of this bank and plan, is too long, or is of a version that this command does
-    /// not take.
+    /// The journal's file represents no history of this bank and plan, is too long, or is of a
+    /// version that this command does not take.
     Journal(OpenFault),
-    /// A request would start one session more than the plan allows; the number of sessions, and the plan's limit.
+    /// A request would start one session more than the plan allows; the number of sessions, and the
+    /// plan's limit.
     Sessions { count: u32, most: u32 },
-    /// The journal would be longer than the plan allows: the length that it would have, and the plan's limit, in bytes.
+    /// The journal would be longer than the plan allows: the length that it would have, and the
+    /// plan's limit, in bytes.
     JournalFull { size: u64, most: u64 },
     /// The weights of a series are not those of the grid's points.
     Weights,

@@ -1,6 +1,6 @@
 //! The sets of items of a plan.
 
-ghost use Rattle.std.specs.Prelude.{◌≡◌, IfSome};
+ghost use Rattle.std.specs.Prelude.{IfSome};
 ghost use Rattle.bank_tables.specs.Items.{AreWords};
 ghost use Rattle.exam_program.specs.ItemSets.{HasItemSets, set_of};
 

@@ -27,8 +27,8 @@ pub fn assemble_is_complete()
     ensures { AssembleIsComplete }
 {}
 
-/// `replay` of a plan with a base, a script in its form and a journal of the plan, of the second version or moved to it, ends so
-/// too, if no limit of the plan is met.
+/// `replay` of a plan with a base, a script in its form and a journal of the plan, of the second
+/// version or moved to it, ends so too, if no limit of the plan is met.
 pub fn replay_is_complete()
     ensures { ReplayIsComplete }
 {}
@@ -58,7 +58,8 @@ pub fn migrate_is_complete()
     ensures { MigrateIsComplete }
 {}
 
-/// `series` by weights of the grid's points prints a series, or shows that there is none, or has spent the base budget.
+/// `series` by weights of the grid's points prints a series, or shows that there is none, or has
+/// spent the base budget.
 pub fn series_is_complete()
     ensures { SeriesIsComplete }
 {}
@@ -68,13 +69,14 @@ pub fn drill_is_complete()
     ensures { DrillIsComplete }
 {}
 
-/// On a disk that was settled, a file that keeps its history represents it, and so does each file that a crash may leave, now or
-/// at a moment since.
+/// On a disk that was settled, a file that keeps its history represents it, and so does each file
+/// that a crash may leave, now or at a moment since.
 pub fn settled_history_is_kept()
     ensures { SettledHistoryIsKept }
 {}
 
-/// And at each moment of a replay over such a disk, each such file represents a history on the way of the script.
+/// And at each moment of a replay over such a disk, each such file represents a history on the way
+/// of the script.
 pub fn settled_replay_is_on_the_way()
     ensures { SettledReplayIsOnTheWay }
 {}

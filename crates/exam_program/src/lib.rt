@@ -1,6 +1,8 @@
-//! The program as a library: what the words ask for, the texts of the files, the assembly of a form, the requests of a script
-//! over the journal, the work of a server, the lines and the statuses. Upward it promises, in the contract of the call `run`, what is printed and with which status, for all words
-//! and all files; it opens no file of the host itself. `run_alone` does the work of each command, and waits for nobody.
+//! The program as a library: what the words ask for, the texts of the files, the assembly of a
+//! form, the requests of a script over the journal, the work of a server, the lines and the
+//! statuses. Upward it promises, in the contract of the call `run`, what is printed and with which
+//! status, for all words and all files; it opens no file of the host itself. `run_alone` does the
+//! work of each command, and waits for nobody.
 #![tactic(auto)]
 
 mod auditing;

@@ -1,4 +1,5 @@
-//! How the work of a follower and of a shipper at a door ends: what is printed last, and the status.
+//! How the work of a follower and of a shipper at a door ends: what is printed last, and the
+//! status.
 
 ghost use Rattle.std.specs.Prelude.{◌≡◌, ◌≢◌, ℕ, ◌≤◌, IfOk, string_bytes};
 ghost use Rattle.exam_edge.specs.Faults.{Rose};
@@ -52,7 +53,8 @@ fn following_lines(alloc: Global, count: u64, summary: &Summary) -> Result<Strin
     Ok(lines)
 }
 
-/// Prints how a link ended that did not end well, and gives the status to end with. The journal has at most so many bytes.
+/// Prints how a link ended that did not end well, and gives the status to end with. The journal has
+/// at most so many bytes.
 #[tactic(auto, unfolding(crate::specs::Links::link_failed, crate::specs::Links::peer_message, crate::specs::Texts::disk_failed, exam_text::specs::Texts::no_memory))]
 fn print_link_end<O: Sink>(alloc: Global, out: &mut O, most: u64, followed: Followed) -> u8
     requires { (count : ℕ) → followed ≢ Done count }
@@ -74,8 +76,8 @@ fn print_link_end<O: Sink>(alloc: Global, out: &mut O, most: u64, followed: Foll
     }
 }
 
-/// Prints how the work of a follower at its door ended, and gives the status to end with: the number of its records and the
-/// numbers of the history, if each link ended well.
+/// Prints how the work of a follower at its door ended, and gives the status to end with: the
+/// number of its records and the numbers of the history, if each link ended well.
 #[tactic(auto, unfolding(crate::specs::Texts::door_failed))]
 pub(crate) fn end_following<O: Sink>(
     alloc: Global,
@@ -99,8 +101,8 @@ pub(crate) fn end_following<O: Sink>(
     }
 }
 
-/// Prints how the work of a shipper at its door ended, and gives the status to end with: the number of records, if the
-/// follower has all of them.
+/// Prints how the work of a shipper at its door ended, and gives the status to end with: the number
+/// of records, if the follower has all of them.
 #[tactic(auto, unfolding(crate::specs::Texts::door_failed, crate::specs::Links::no_link))]
 pub(crate) fn end_shipping<O: Sink>(alloc: Global, out: &mut O, most: u64, end: DoorEnd) -> u8
     ensures printed { EndsWith (IsLastOfShip most end) (O.tells out.old) (O.written out.old)

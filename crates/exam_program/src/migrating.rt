@@ -47,8 +47,8 @@ fn moved_text(alloc: Global, done: Moved) -> Option<Vec<u8>>
     Some(line.into_bytes())
 }
 
-/// Moves the journal on a disk to the second version, by a bank and a plan, and prints how many records it wrote, and the
-/// length of the journal then. It gives the disk back.
+/// Moves the journal on a disk to the second version, by a bank and a plan, and prints how many
+/// records it wrote, and the length of the journal then. It gives the disk back.
 fn migrate_exam<O: Sink, D: Disk>(
     alloc: Global,
     bank: &Bank,
@@ -84,8 +84,8 @@ fn migrate_exam<O: Sink, D: Disk>(
     }
 }
 
-/// Moves the journal on a disk to the second version, and prints how many records it wrote, and the length of the journal
-/// then. It gives the disk back.
+/// Moves the journal on a disk to the second version, and prints how many records it wrote, and the
+/// length of the journal then. It gives the disk back.
 pub(crate) fn migrate_journal<F: Files, O: Sink, D: Disk>(
     alloc: Global,
     files: &mut F,

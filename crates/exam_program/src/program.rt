@@ -109,8 +109,8 @@ fn work<F: Files, O: Sink, D: Disk>(
     }
 }
 
-/// Does what a command line asks for, if it asks for a command, and gives the disk, the status to end with, and the halt if it
-/// ended by one.
+/// Does what a command line asks for, if it asks for a command, and gives the disk, the status to
+/// end with, and the halt if it ended by one.
 fn status_of<F: Files, O: Sink, D: Disk>(
     alloc: Global,
     command: Option<Command<'_>>,
@@ -166,14 +166,15 @@ fn status_of<F: Files, O: Sink, D: Disk>(
     }
 }
 
-/// Does what the words ask for, which are those after the program's name, and waits for nobody. The words do not ask for a
-/// server, to follow or to ship. The journal's disk is as a reboot or a journal left it.
-/// It gives the status to end with: 0 the work was done, 2 the words are not in the table,
-/// 3, 4 and 5 the bank, the plan or the script is refused, 6 the journal represents no history of the bank and the plan, or, in
-/// a replay, is of the first version and was not moved, 7, 8 and 9 a call of the files, the sink or the disk failed, 10 out of
-/// memory, 11 no set of items is a form, 12 the plan has no base and none was found within the base budget, 13 a limit of the
-/// plan is met, 16 the weights of a series are not the grid's, 17 there is no series, 18 no series was found within the base
-/// budget.
+/// Does what the words ask for, which are those after the program's name, and waits for nobody. The
+/// words do not ask for a server, to follow or to ship. The journal's disk is as a reboot or a
+/// journal left it. It gives the status to end with: 0 the work was done, 2 the words are not in
+/// the table, 3, 4 and 5 the bank, the plan or the script is refused, 6 the journal represents no
+/// history of the bank and the plan, or, in a replay, is of the first version and was not moved, 7,
+/// 8 and 9 a call of the files, the sink or the disk failed, 10 out of memory, 11 no set of items
+/// is a form, 12 the plan has no base and none was found within the base budget, 13 a limit of the
+/// plan is met, 16 the weights of a series are not the grid's, 17 there is no series, 18 no series
+/// was found within the base budget.
 pub fn run_alone<F: Files, O: Sink, D: Disk>(
     alloc: Global,
     words: &[String],
@@ -181,12 +182,14 @@ pub fn run_alone<F: Files, O: Sink, D: Disk>(
 ) -> (u8, Tools<F, O, D>, Option<Halt>)
     requires alone { IsOfDoors (command_of (map (λ w. string_bytes w) words.now)) → ⊥ }
     requires left { IsTrue (D.tells tools.disk) → IsAsLeft (D.accounts tools.disk) }
-    // The disk allows that each history goes on. So of a run that never ends: at each moment each file that a crash may leave,
-    // and could not leave before, represents a history that goes on from that of the file as it was read before.
+    // The disk allows that each history goes on. So of a run that never ends: at each moment each
+    // file that a crash may leave, and could not leave before, represents a history that goes on
+    // from that of the file as it was read before.
     requires allows { AllowsExams (F.tells tools.files) (F.has tools.files) (F.content tools.files)
         D.may_become }
-    // If the files report their content: what is printed, and with which status. If the sink reports its content too: that this
-    // is written. If the disk reports its content too: what the journal holds, and what a crash may leave of it.
+    // If the files report their content: what is printed, and with which status. If the sink
+    // reports its content too: that this is written. If the disk reports its content too: what the
+    // journal holds, and what a crash may leave of it.
     ensures answers { IsTrue (F.tells tools.files)
         → Ends (map (λ w. string_bytes w) words.now)
         (outside (F.has tools.files) (F.content tools.files) (F.faults tools.files)
@@ -199,8 +202,8 @@ pub fn run_alone<F: Files, O: Sink, D: Disk>(
         (outside (F.has tools.files) (F.content tools.files) (F.faults tools.files)
         (F.faults result.1.files)
         (disk_seen D.tells D.content D.accounts D.faults tools.disk result.1.disk)) }
-    // The halt, if the run ended by one, and what it shows: of a journal that is refused, the rule that its first wrong record
-    // breaks, with the values.
+    // The halt, if the run ended by one, and what it shows: of a journal that is refused, the rule
+    // that its first wrong record breaks, with the values.
     ensures cause { IsTrue (F.tells tools.files)
         → EndsAs (map (λ w. string_bytes w) words.now)
         (outside (F.has tools.files) (F.content tools.files) (F.faults tools.files)
@@ -252,7 +255,8 @@ fn bytes_of(token: &Option<Vec<u8>>) -> Option<&[u8]>
     }
 }
 
-/// Does what the words ask for, and gives the disk, the doors, the status to end with, and the halt if it ended by one.
+/// Does what the words ask for, and gives the disk, the doors, the status to end with, and the halt
+/// if it ended by one.
 #[tactic(auto, using(crate::proofs::LinkLaws::none_served))]
 fn left_of<R, F, O, D, L, G>(
     rt: &R,
@@ -362,18 +366,22 @@ where
     }
 }
 
-/// Does what the words ask for, which are those after the program's name. At most 65,535 doors are given, and no link of theirs
-/// is out. Only a server uses all doors, the gate and the token; it may wait, and ends where each door ends. A follower and a
-/// shipper use the first door; a follower may wait, and ends where the door ends or at the first fault. Where there is a token,
-/// a message that does not bear it does nothing, but for a look at the health. The gate is the observer, too: a server tells it
-/// how the examination is once the journal was opened, after each response, and at the end. The journal's disk is as a reboot
-/// or a journal left it. It gives the status to end with: 0 the work was done, 2 the words are not in the table, 3, 4 and 5 the
-/// bank, the plan or the script is refused, 6 the journal represents no history of the bank and the plan, or, in a replay, a
-/// server, a follower and a shipper, is of the first version and was not moved, 7, 8 and 9 a call of the files, the sink or the
-/// disk failed, 10 out of memory, 11 no set of items is a form, 12 the plan has no base and none was found within the base
-/// budget, 13 a limit of the plan is met in a replay, a drill, a migration or a follower, 14 a door failed; of a series, 16 the
-/// weights are not the grid's, 17 there is none, 18 none was found within the base budget; of a follower and a shipper, 19 a link failed, 20 the other side of it sent what no peer may send, 21 the record that it offered may not follow,
-/// 22 there was no link to ship over.
+/// Does what the words ask for, which are those after the program's name. At most 65,535 doors are
+/// given, and no link of theirs is out. Only a server uses all doors, the gate and the token; it
+/// may wait, and ends where each door ends. A follower and a shipper use the first door; a follower
+/// may wait, and ends where the door ends or at the first fault. Where there is a token, a message
+/// that does not bear it does nothing, but for a look at the health. The gate is the observer, too:
+/// a server tells it how the examination is once the journal was opened, after each response, and
+/// at the end. The journal's disk is as a reboot or a journal left it. It gives the status to end
+/// with: 0 the work was done, 2 the words are not in the table, 3, 4 and 5 the bank, the plan or
+/// the script is refused, 6 the journal represents no history of the bank and the plan, or, in a
+/// replay, a server, a follower and a shipper, is of the first version and was not moved, 7, 8 and
+/// 9 a call of the files, the sink or the disk failed, 10 out of memory, 11 no set of items is a
+/// form, 12 the plan has no base and none was found within the base budget, 13 a limit of the plan
+/// is met in a replay, a drill, a migration or a follower, 14 a door failed; of a series, 16 the
+/// weights are not the grid's, 17 there is none, 18 none was found within the base budget; of a
+/// follower and a shipper, 19 a link failed, 20 the other side of it sent what no peer may send, 21
+/// the record that it offered may not follow, 22 there was no link to ship over.
 pub fn run<
     R: Threads + Wait + Sync,
     F: Files,
@@ -385,13 +393,15 @@ pub fn run<
     requires few { vec_len world.doors ≤ 65535 }
     requires home { All (λ door. L.is_out door ≡ false) world.doors.items }
     requires left { IsTrue (D.tells world.disk) → IsAsLeft (D.accounts world.disk) }
-    // The disk allows that each history goes on. So of a run that never ends: at each moment each file that a crash may leave,
-    // and could not leave before, represents a history that goes on from that of the file as it was read before.
+    // The disk allows that each history goes on. So of a run that never ends: at each moment each
+    // file that a crash may leave, and could not leave before, represents a history that goes on
+    // from that of the file as it was read before.
     requires allows { AllowsExams (F.tells world.files) (F.has world.files) (F.content world.files)
         D.may_become }
-    // What a server asks of its links, and so what it promises of each byte that a client got at any moment, also of a run
-    // that never ends: it is of the responses to the client's messages, in order, each right for marks that a pass of this
-    // office's hall has seen, which begin with the history that was found. A link need allow nothing else.
+    // What a server asks of its links, and so what it promises of each byte that a client got at
+    // any moment, also of a run that never ends: it is of the responses to the client's messages,
+    // in order, each right for marks that a pass of this office's hall has seen, which begin with
+    // the history that was found. A link need allow nothing else.
     requires fair { (office : OpenedWith) (opened : List Mark)
         → IsOpenedBy (map (λ w. string_bytes w) words.now)
         (F.tells world.files) (F.has world.files) (F.content world.files)
@@ -402,9 +412,10 @@ pub fn run<
     // A follower and a shipper ask that each text is allowed.
     requires allowed { IsOfLinked (command_of (map (λ w. string_bytes w) words.now))
         → AllowsAll L.Link.tells L.Link.allows }
-    // If the files report their content: what is printed, and with which status; and what became of the doors. If the sink
-    // reports its content too: that this is written. If the disk reports its content too: what the journal holds, and what a
-    // crash may leave of it. Of a door that reports its links: that each was served, and what was written to it.
+    // If the files report their content: what is printed, and with which status; and what became of
+    // the doors. If the sink reports its content too: that this is written. If the disk reports its
+    // content too: what the journal holds, and what a crash may leave of it. Of a door that reports
+    // its links: that each was served, and what was written to it.
     ensures answers { IsTrue (F.tells world.files)
         → RunEnds (λ opened closed end. AreServed (option_map (λ t. t.items) world.token)
         L.tells L.coming L.returned L.is_out L.faults L.identity L.Link.tells L.Link.left L.Link.written L.Link.faults L.Link.identity
@@ -443,8 +454,9 @@ pub fn run<
         (outside (F.has world.files) (F.content world.files) (F.faults world.files)
         (F.faults result.files)
         (disk_seen D.tells D.content D.accounts D.faults world.disk result.disk)) }
-    // The halt, if the run ended by one, and what it shows: of a journal that is refused, the rule that its first wrong record
-    // breaks, with the values. Without one no text was refused, and status 6 comes of a follower or a shipper alone.
+    // The halt, if the run ended by one, and what it shows: of a journal that is refused, the rule
+    // that its first wrong record breaks, with the values. Without one no text was refused, and
+    // status 6 comes of a follower or a shipper alone.
     ensures cause { IsTrue (F.tells world.files)
         → EndsAs (map (λ w. string_bytes w) words.now)
         (outside (F.has world.files) (F.content world.files) (F.faults world.files)

@@ -1,7 +1,8 @@
-//! Why a command ended before its work was done, in words for an operator. Standard output has one short line by a fixed
-//! format; these words are for standard error. They name the rule that is broken, with its values. Left out are the place of a
-//! record, which `place_of` gives, whether the form of an item that waits is proved best, and what is wrong with a proof tree
-//! that does not show what its record has.
+//! Why a command ended before its work was done, in words for an operator. Standard output has one
+//! short line by a fixed format; these words are for standard error. They name the rule that is
+//! broken, with its values. Left out are the place of a record, which `place_of` gives, whether the
+//! form of an item that waits is proved best, and what is wrong with a proof tree that does not
+//! show what its record has.
 
 ghost use Rattle.std.specs.Prelude.{◌≡◌, ◌++◌, IfOk, codes, string_bytes};
 ghost use Rattle.std.specs.Option.{option_map};
@@ -212,7 +213,8 @@ fn fault_words(alloc: Global, fault: OpenFault) -> Result<String, AllocError>
     }
 }
 
-/// The place of the record for which a journal is refused, if it is one: that of its gate in the file, in bytes.
+/// The place of the record for which a journal is refused, if it is one: that of its gate in the
+/// file, in bytes.
 pub fn place_of(halt: &Halt) -> Option<u64>
     ensures { result ≡ place_of halt.now }
 {
@@ -224,8 +226,9 @@ pub fn place_of(halt: &Halt) -> Option<u64>
     }
 }
 
-/// What an operator reads of a halt on standard error: why a journal is refused, by the rule that its record breaks and the values
-/// that the rule has, and for a plan without a form the command that explains it. Nothing, if the line on standard output has all.
+/// What an operator reads of a halt on standard error: why a journal is refused, by the rule that
+/// its record breaks and the values that the rule has, and for a plan without a form the command
+/// that explains it. Nothing, if the line on standard output has all.
 #[tactic(auto, unfolding(crate::specs::Reasons::halt_words))]
 pub fn halt_words(alloc: Global, halt: &Halt) -> Result<Option<String>, AllocError>
     ensures { IfOk result

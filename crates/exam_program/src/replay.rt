@@ -146,8 +146,8 @@ pub(crate) fn halt_of_opening(fault: OpenFault) -> Halt
     }
 }
 
-/// Opens the journal on a disk, does the requests of a script over it, and prints the reply to each. The base form, which meets
-/// the plan, is the hint of each assembly. It gives the disk back.
+/// Opens the journal on a disk, does the requests of a script over it, and prints the reply to
+/// each. The base form, which meets the plan, is the hint of each assembly. It gives the disk back.
 pub(crate) fn replay<'a, O: Sink, D: Disk>(
     alloc: Global,
     bank: &'a Bank,

@@ -52,7 +52,8 @@ fn text_of_series(alloc: Global, exam: &Exam, forms: u8, weights: &str) -> Resul
     }
 }
 
-/// Reads a bank and a plan, assembles a series of so many forms by the weights that a word writes, and prints it with its tree.
+/// Reads a bank and a plan, assembles a series of so many forms by the weights that a word writes,
+/// and prints it with its tree.
 pub(crate) fn series<F: Files, O: Sink>(
     alloc: Global,
     files: &mut F,

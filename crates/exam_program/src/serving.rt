@@ -1,6 +1,6 @@
 //! The command `serve`: connections over the journal.
 
-ghost use Rattle.std.specs.Prelude.{◌≡◌, ℕ, ◌≤◌, ◌⊎◌, List, All, Some, None, false, IsTrue, IfErr, IfOk, OnErr, length, vec_len};
+ghost use Rattle.std.specs.Prelude.{◌≡◌, ℕ, ◌≤◌, ◌⊎◌, List, All, Some, None, false, IsTrue, OnErr, vec_len};
 ghost use Rattle.std.specs.Option.{option_copied};
 ghost use Rattle.bank_tables.specs.Items.{has};
 ghost use Rattle.exam_edge.specs.Faults.{Rose};
@@ -41,7 +41,8 @@ use std::alloc::Global;
 use std::sync::Wait;
 use std::thread::Threads;
 
-/// What a command with doors leaves: the disk, the doors in their order, the status to end with, and the halt if it ended by one.
+/// What a command with doors leaves: the disk, the doors in their order, the status to end with,
+/// and the halt if it ended by one.
 pub(crate) struct Left<D, L> {
     pub disk: D,
     pub doors: Vec<L>,
@@ -82,7 +83,8 @@ fn print_disk_failed<O: Sink>(out: &mut O) -> u8
     print(out, b"disk failed\n", 9)
 }
 
-/// Asks the disk for its length once the work at the doors is done: a journal that was lost gives none.
+/// Asks the disk for its length once the work at the doors is done: a journal that was lost gives
+/// none.
 fn ask_disk<D: Disk>(disk: &mut D, end: End) -> Result<(), Failed>
     ensures done { OnErr result (IsOver end) }
     ensures failed { FailsOnly D.faults disk.old disk.new result }
@@ -127,8 +129,8 @@ fn end_over<O: Sink, D: Disk>(
 }
 
 /// Opens the journal on a disk, serves the connections of the doors over it, for messages that bear
-/// the token if there is one, and prints how that ended. The observer is told how the examination is
-/// before and after that. The base form, which meets the plan, is the hint of each assembly.
+/// the token if there is one, and prints how that ended. The observer is told how the examination
+/// is before and after that. The base form, which meets the plan, is the hint of each assembly.
 fn serve_over<'a, R, O, D, L, G>(
     rt: &R,
     alloc: Global,

@@ -30,7 +30,8 @@ use exam_office::Office;
 use record_doors::ship_first;
 use std::alloc::Global;
 
-/// Opens the journal on a disk, ships its records over one link of the first door, and prints how that ended.
+/// Opens the journal on a disk, ships its records over one link of the first door, and prints how
+/// that ended.
 fn ship_over<'a, O: Sink, D: Disk, L: Door>(
     alloc: Global,
     bank: &'a Bank,
@@ -101,8 +102,8 @@ fn ship_over<'a, O: Sink, D: Disk, L: Door>(
     }
 }
 
-/// Ships the records of the journal on a disk over one link of the first door, and prints how that ended. It gives the disk
-/// and the doors back.
+/// Ships the records of the journal on a disk over one link of the first door, and prints how that
+/// ended. It gives the disk and the doors back.
 pub(crate) fn ship<F: Files, O: Sink, D: Disk, L: Door>(
     alloc: Global,
     files: &mut F,

@@ -61,7 +61,8 @@ fn objective_line(
     format!(in alloc; "objective {value} {mark} nodes {nodes}\n")
 }
 
-/// The text of a form that was found: its items, its objective with the mark and the number of nodes, and the tree.
+/// The text of a form that was found: its items, its objective with the mark and the number of
+/// nodes, and the tree.
 #[tactic(auto, unfolding(crate::specs::Texts::form_text))]
 pub(crate) fn form_text(
     alloc: Global,

@@ -104,7 +104,8 @@ pub(crate) fn assemble<F: Files, O: Sink>(
     }
 }
 
-/// Does the requests of a script over the journal on a disk, and prints the reply to each. It gives the disk back.
+/// Does the requests of a script over the journal on a disk, and prints the reply to each. It gives
+/// the disk back.
 pub(crate) fn replay_script<F: Files, O: Sink, D: Disk>(
     alloc: Global,
     files: &mut F,

@@ -2,7 +2,8 @@
 
 use crate::halt::Halt;
 
-/// What a command that waits for nobody needs: files to read, a sink to print to, and the disk of the journal.
+/// What a command that waits for nobody needs: files to read, a sink to print to, and the disk of
+/// the journal.
 #[derive(Drop)]
 pub struct Tools<F, O, D> {
     pub files: F,
@@ -10,8 +11,9 @@ pub struct Tools<F, O, D> {
     pub disk: D,
 }
 
-/// The outside: files, sink and disk, the doors that connections come from, the gate that may hold a caller and observes
-/// the examination, and the token that messages have to bear, if there is one.
+/// The outside: files, sink and disk, the doors that connections come from, the gate that may hold
+/// a caller and observes the examination, and the token that messages have to bear, if there is
+/// one.
 #[derive(Drop)]
 pub struct World<F, O, D, L, G> {
     pub files: F,
@@ -22,7 +24,8 @@ pub struct World<F, O, D, L, G> {
     pub token: Option<Vec<u8>>,
 }
 
-/// The outside as the program leaves it, with the status to end with, and the halt if the run ended by one.
+/// The outside as the program leaves it, with the status to end with, and the halt if the run ended
+/// by one.
 #[derive(Drop)]
 pub struct Finish<F, O, D, L> {
     pub status: u8,

@@ -1,4 +1,5 @@
--- The bands of a start, and the band of a setting aside: what is read was written there, and what was written is read.
+-- The bands of a start, and the band of a setting aside: what is read was written there, and what
+-- was written is read.
 use Rattle.std.proofs.Common.{◌≡◌, ℕ, zero, suc, ◌+◌, ◌-◌, ◌*◌, ◌<◌, ◌≤◌, ◌==◌, ◌||◌, false, ltb, List, [], ◌∷◌, ◌++◌, length, get_or, take, drop, set, append_assoc, Ok, Err, refl, sym, ap, subst, ◌∙◌, arith, inl, inr, length-append, add-one}
 use Rattle.std.specs.Prelude.{replicate}
 use Rattle.std.proofs.lemmas.Bool.{cases_eq, cases_lt, eqb-false, ne_eqb, ltb-false, le-ltb, or_parts, or_from}

@@ -1,8 +1,9 @@
--- The list of a start: what is read was written there, what was written is read, and what a cut leaves.
-use Rattle.std.proofs.Common.{◌≡◌, ℕ, ◌+◌, ◌<◌, ◌≤◌, Bool, true, false, not, List, ◌++◌, length, take, Option, Some, None, Ok, Err, refl, sym, ap, subst, ◌∙◌, arith, inl, inr, length-append}
+-- The list of a start: what is read was written there, what was written is read, and what a cut
+-- leaves.
+use Rattle.std.proofs.Common.{◌≡◌, ℕ, ◌+◌, ◌<◌, ◌≤◌, Bool, true, false, not, List, length, take, Option, Some, None, Ok, refl, sym, subst, ◌∙◌, arith, inl, inr, length-append}
 use Rattle.std.specs.Prelude.{MatchOption, IfSome, is_some}
 use Rattle.std.proofs.Math.Bool.{true≢false}
-use Rattle.bank_tables.specs.Items.{Set, has, AreWords, IsLowest}
+use Rattle.bank_tables.specs.Items.{has, AreWords, IsLowest}
 use Rattle.bank_tables.specs.Sums.{any_below}
 use Rattle.bank_tables.proofs.Bits.{has_past}
 use Rattle.std.proofs.lemmas.Bool.{cases_lt}

@@ -1,4 +1,5 @@
--- A record that is read is the record that was written, and what was written is read again, up to the end of the record.
+-- A record that is read is the record that was written, and what was written is read again, up to
+-- the end of the record.
 use Rattle.std.proofs.Common.{◌≡◌, ℕ, ◌^◌, ◌==◌, inl, inr, Bool, true, false, List, [], ◌∷◌, ◌++◌, Some, None, Ok, refl, sym, subst, arith}
 use Rattle.std.specs.Int.{w16, w32, w64, to_be_bytes}
 use Rattle.std.proofs.lemmas.Bool.{eqb-true}
@@ -32,7 +33,8 @@ pub record IsFound (P : Record → Type 0) (spell : Entry → List ℕ) (bytes :
 pub entry_alone : (bytes text : List ℕ) (next : ℕ) → Stands bytes 0 text next → Stands bytes 0 (text ++ []) next
 entry_alone bytes text next p = subst (λ (t : List ℕ). Stands bytes 0 t next) (sym (append-nil text)) p
 
--- ---- the entries that have the same bytes in each version, with what the version asks of a record, and its spelling of entries
+-- ---- the entries that have the same bytes in each version, with what the version asks of a
+-- record, and its spelling of entries
 
 module _ (P : Record → Type 0) (spell : Entry → List ℕ)
     (same : (session step item : ℕ) (form : List ℕ) (proved : Bool) (nodes : ℕ) → spell (Served session step item form proved nodes) ≡ served_bytes session step item form proved nodes)

@@ -1,4 +1,5 @@
--- The definitions, computed on records whose bytes were worked out by hand, and on payloads with one thing wrong.
+-- The definitions, computed on records whose bytes were worked out by hand, and on payloads with
+-- one thing wrong.
 use Rattle.std.proofs.Common.{◌≡◌, ℕ, true, List, [], ◌∷◌, ◌++◌, length, take, None, Some, Ok, Err, refl}
 use Rattle.std.specs.Prelude.{replicate}
 use Rattle.bank_tables.specs.Items.{has}
@@ -92,7 +93,8 @@ two_and_more : record_of (start_with (1 ∷ 63 ∷ (replicate 63 0 ++ 1 ∷ repl
 unfolding start_with record_of record_by record_of_kind started bands_at count_at set_at items_at numbers_of number_of
 two_and_more = refl
 
--- ---- item 2 is served at step 0 of session 0 from the form of the items 1 to 3, proved best by a tree of one leaf
+-- ---- item 2 is served at step 0 of session 0 from the form of the items 1 to 3, proved best by a
+-- tree of one leaf
 
 one_leaf : ProofTree
 one_leaf = record { vectors = ((3, 1) ∷ []) ∷ []; nodes = Bound 0 ∷ [] }

@@ -1,4 +1,5 @@
--- Records of the second version of the journal: what is read was written, and what was written is read again.
+-- Records of the second version of the journal: what is read was written, and what was written is
+-- read again.
 use Rattle.std.proofs.Common.{◌≡◌, ℕ, ◌+◌, ◌*◌, ◌^◌, ◌<◌, ◌≤◌, ◌==◌, inl, inr, true, false, List, [], ◌∷◌, ◌++◌, length, Option, Some, None, Result, Ok, Err, refl, sym, ap, subst, ◌∙◌, arith, length-append}
 use Rattle.std.specs.Prelude.{IfOk}
 use Rattle.std.specs.Int.{w16, w32, w64, to_be_bytes}

@@ -1,4 +1,5 @@
-//! What the bytes of records promise, for all records and all bytes, in both versions of the journal.
+//! What the bytes of records promise, for all records and all bytes, in both versions of the
+//! journal.
 
 ghost use Rattle.std.specs.Prelude.{◌≡◌, ◌≢◌, ℕ, ◌+◌, ◌/◌, ◌%◌, ◌<◌, ◌≤◌, ◌⊎◌, ◌∷◌, [], ◌++◌, List, length, take, slice_index, Ok, Err, if◌then◌else◌};
 ghost use Rattle.std.specs.Int.{bit_at};
@@ -66,8 +67,8 @@ pub fn cut_off_is_told()
         (old_record_of (take k (old_payload_of first r))) }
 {}
 
-/// The first byte shows which versions may read a payload: kinds 3 to 5 are the same in both, 6, 7 and 9 are of the second
-/// alone, and 1 and 2 of the first alone. No kind is 8.
+/// The first byte shows which versions may read a payload: kinds 3 to 5 are the same in both, 6, 7
+/// and 9 are of the second alone, and 1 and 2 of the first alone. No kind is 8.
 pub fn kind_shows_version()
     ensures none { (kind : ℕ) (rest : List ℕ) → (kind < 3) ⊎ ((kind ≡ 8) ⊎ (9 < kind))
         → record_of (kind ∷ rest) ≡ Err (Kind 0) }

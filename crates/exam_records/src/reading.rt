@@ -339,9 +339,10 @@ fn record_of(alloc: Global, payload: &[u8]) -> Result<Record, RecordFault>
     whole(rec, next, payload)
 }
 
-/// The record that the payload spells, all of its bytes, in the second version of the journal. The payload is the bytes of
-/// one record: the kind in a byte, the fields of the entry, and the tree where there is one; numbers are big-endian
-/// (docs/FORMATS.md has the table). Fails with the first fault in the order of reading, or out of memory.
+/// The record that the payload spells, all of its bytes, in the second version of the journal. The
+/// payload is the bytes of one record: the kind in a byte, the fields of the entry, and the tree
+/// where there is one; numbers are big-endian (docs/FORMATS.md has the table). Fails with the first
+/// fault in the order of reading, or out of memory.
 pub fn decode(alloc: Global, payload: &[u8]) -> Result<Record, RecordFault>
     // What is read is a record, and the payload its one spelling.
     ensures found { IfOk result (λ rec. IsRecord rec × (payload.now ≡ payload_of rec)) }
@@ -426,10 +427,11 @@ fn old_record_of(alloc: Global, payload: &[u8]) -> Result<Record, RecordFault>
     whole(rec, next, payload)
 }
 
-/// The record that the payload spells, all of its bytes, in the first version of the journal: a start has one eligible set,
-/// and a setting aside has step 0 and band 0. The payload is the bytes of one record: the kind in a byte, the fields of the
-/// entry, and the tree where there is one; numbers are big-endian (docs/FORMATS.md has the table). Fails with the first
-/// fault in the order of reading, or out of memory.
+/// The record that the payload spells, all of its bytes, in the first version of the journal: a
+/// start has one eligible set, and a setting aside has step 0 and band 0. The payload is the bytes
+/// of one record: the kind in a byte, the fields of the entry, and the tree where there is one;
+/// numbers are big-endian (docs/FORMATS.md has the table). Fails with the first fault in the order
+/// of reading, or out of memory.
 pub fn decode_old(alloc: Global, payload: &[u8]) -> Result<Record, RecordFault>
     // What is read is a record of the first version, and the payload its one spelling.
     ensures found { IfOk result (λ rec. IsOldRecord rec × (payload.now ≡ old_payload_of 0 rec)) }

@@ -34,8 +34,8 @@ pub(crate) fn set_in(sets: &[ItemSet; 8], band: u8) -> ItemSet
     sets[band as usize]
 }
 
-/// Eight bytes of the set, from item `64 * word` on. They are spelled out one by one, so that the compiler knows the place of
-/// each bit in its word, and makes one move of a byte of it.
+/// Eight bytes of the set, from item `64 * word` on. They are spelled out one by one, so that the
+/// compiler knows the place of each bit in its word, and makes one move of a byte of it.
 fn eight_bytes(set: &ItemSet, word: u16) -> [u8; 8]
     requires { word < 8 }
     ensures length { length result ≡ 8 }

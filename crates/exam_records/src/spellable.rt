@@ -30,8 +30,8 @@ fn are_list_sets(without: &Option<Without>)
     }
 }
 
-/// What every entry is by its type, for a caller's proof: its numbers fit the bytes that they are written in, and its sets
-/// are of items. It does nothing.
+/// What every entry is by its type, for a caller's proof: its numbers fit the bytes that they are
+/// written in, and its sets are of items. It does nothing.
 pub fn is_in_range(entry: &Entry)
     ensures { IsInRange entry.now }
 {
@@ -81,7 +81,8 @@ fn is_tree(tree: Option<&Tree>)
     }
 }
 
-/// An entry and the tree that goes with it have a spelling, if its bands are few and its list isn't empty.
+/// An entry and the tree that goes with it have a spelling, if its bands are few and its list isn't
+/// empty.
 pub(crate) fn is_record(entry: &Entry, tree: Option<&Tree>)
     requires { GoesWith entry.now (option_copied tree) }
     ensures is_record { HasBands entry.now

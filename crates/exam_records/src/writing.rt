@@ -1,6 +1,6 @@
 //! Writing a record.
 
-ghost use Rattle.std.specs.Prelude.{◌≡◌, ℕ, ◌+◌, ◌≤◌, ◌<◌, ◌∷◌, ◌++◌, [], length, Option, OnOk, IfOk};
+ghost use Rattle.std.specs.Prelude.{◌≡◌, ℕ, ◌+◌, ◌≤◌, ◌<◌, ◌∷◌, ◌++◌, length, Option, OnOk, IfOk};
 ghost use Rattle.std.specs.Int.{w16, w32, w64, to_be_bytes};
 ghost use Rattle.std.specs.Option.{option_copied};
 ghost use Rattle.certificate_model.specs.ProofTrees.{ProofTree};
@@ -247,11 +247,12 @@ fn push_tree(alloc: Global, out: &mut Vec<u8>, tree: Option<&Tree>) -> Result<()
     Ok(())
 }
 
-/// Writes the spelling of the record of an entry and its tree in the second version of the journal, at most 86,600 bytes,
-/// after what was written before. The conditions are that there is a tree exactly where the entry is SetAside or Served, that
-/// the entry's number of nodes is the tree's, that a start has 1 to 8 bands that count and no items in the others, that its
-/// list, if there is one, isn't empty, and that the band of a setting aside is below 8. Fails only where it is out of memory,
-/// and then it isn't known what of the spelling was written.
+/// Writes the spelling of the record of an entry and its tree in the second version of the journal,
+/// at most 86,600 bytes, after what was written before. The conditions are that there is a tree
+/// exactly where the entry is SetAside or Served, that the entry's number of nodes is the tree's,
+/// that a start has 1 to 8 bands that count and no items in the others, that its list, if there is
+/// one, isn't empty, and that the band of a setting aside is below 8. Fails only where it is out of
+/// memory, and then it isn't known what of the spelling was written.
 #[tactic(auto, unfolding(crate::specs::Spelling::payload_of))]
 pub fn push_record(
     alloc: Global,
@@ -275,7 +276,8 @@ pub fn push_record(
     push_tree(alloc, out, tree)
 }
 
-/// The spelling that `push_record` writes, under the same conditions. Fails only where it is out of memory.
+/// The spelling that `push_record` writes, under the same conditions. Fails only where it is out of
+/// memory.
 pub fn encode_parts(alloc: Global, entry: &Entry, tree: Option<&Tree>) -> Result<Vec<u8>, Memory>
     requires tree { GoesWith entry.now (option_copied tree) }
     requires bands { HasBands entry.now }
@@ -291,7 +293,8 @@ pub fn encode_parts(alloc: Global, entry: &Entry, tree: Option<&Tree>) -> Result
     Ok(out)
 }
 
-/// The spelling of the record in the second version of the journal, as that of its entry and its tree.
+/// The spelling of the record in the second version of the journal, as that of its entry and its
+/// tree.
 pub fn encode(alloc: Global, rec: &Record) -> Result<Vec<u8>, Memory>
     requires tree { GoesWith rec.now.entry rec.now.tree }
     requires bands { HasBands rec.now.entry }
@@ -303,11 +306,13 @@ pub fn encode(alloc: Global, rec: &Record) -> Result<Vec<u8>, Memory>
     encode_parts(alloc, &rec.entry, rec.tree.as_ref())
 }
 
-/// Writes the spelling of the record of an entry and its tree in the first version of the journal, at most 86,600 bytes,
-/// after what was written before. Of a start it keeps the set of one band, `first`, which is to be the band where each session
-/// begins, and no list; of a setting aside it keeps neither the step nor the band. The conditions are that there is such a band, that there
-/// is a tree exactly where the entry is SetAside or Served, and that the entry's number of nodes is the tree's. Fails only
-/// where it is out of memory, and then it isn't known what of the spelling was written.
+/// Writes the spelling of the record of an entry and its tree in the first version of the journal,
+/// at most 86,600 bytes, after what was written before. Of a start it keeps the set of one band,
+/// `first`, which is to be the band where each session begins, and no list; of a setting aside it
+/// keeps neither the step nor the band. The conditions are that there is such a band, that there is
+/// a tree exactly where the entry is SetAside or Served, and that the entry's number of nodes is
+/// the tree's. Fails only where it is out of memory, and then it isn't known what of the spelling
+/// was written.
 #[tactic(auto, unfolding(crate::specs::Spelling::old_payload_of))]
 pub fn push_old_record(
     alloc: Global,
@@ -333,7 +338,8 @@ pub fn push_old_record(
     push_tree(alloc, out, tree)
 }
 
-/// The spelling that `push_old_record` writes, under the same conditions. Fails only where it is out of memory.
+/// The spelling that `push_old_record` writes, under the same conditions. Fails only where it is
+/// out of memory.
 pub fn encode_old_parts(
     alloc: Global,
     first: u8,
@@ -355,7 +361,8 @@ pub fn encode_old_parts(
     Ok(out)
 }
 
-/// The spelling of the record in the first version of the journal, as that of its entry and its tree.
+/// The spelling of the record in the first version of the journal, as that of its entry and its
+/// tree.
 pub fn encode_old(alloc: Global, first: u8, rec: &Record) -> Result<Vec<u8>, Memory>
     requires first { first < 8 }
     requires tree { GoesWith rec.now.entry rec.now.tree }
@@ -367,10 +374,10 @@ pub fn encode_old(alloc: Global, first: u8, rec: &Record) -> Result<Vec<u8>, Mem
     encode_old_parts(alloc, first, &rec.entry, rec.tree.as_ref())
 }
 
-/// By how many bytes the spelling of a record of the entry is longer in the second version than in the first: 1 and 64 for
-/// each band but one that counts, for a start; 3 for a setting aside; else none. The conditions are that of `push_record` on
-/// bands, and that a start has no list. So the length of a record in the second version is known from its payload in the
-/// first.
+/// By how many bytes the spelling of a record of the entry is longer in the second version than in
+/// the first: 1 and 64 for each band but one that counts, for a start; 3 for a setting aside; else
+/// none. The conditions are that of `push_record` on bands, and that a start has no list. So the
+/// length of a record in the second version is known from its payload in the first.
 pub fn growth(entry: &Entry) -> u64
     requires bands { HasBands entry.now }
     requires unlisted { HasNoList entry.now }

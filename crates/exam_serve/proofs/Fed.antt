@@ -1,5 +1,5 @@
 -- Work at doors where no connection ended for lack of memory.
-use Rattle.std.proofs.Common.{◌≡◌, Option, ℕ, Bool, true, false, ◌||◌, List, [], ◌∷◌, map, subst, sym, ap, ◌∙◌}
+use Rattle.std.proofs.Common.{◌≡◌, Option, ℕ, Bool, true, false, ◌||◌, List, [], ◌∷◌, sym, ap, ◌∙◌}
 use Rattle.std.proofs.lemmas.Bool.{false≢true}
 use Rattle.std.specs.List.{AllZip, list_any}
 use Rattle.exam_workers.specs.declared.Station.{Station}

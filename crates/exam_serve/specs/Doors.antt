@@ -76,9 +76,9 @@ module _ {D K : Type 0} where
 module _ {D K : Type 0} (token : Option (List ℕ)) (tells : D → Bool) (coming returned : D → List K)
     (is_out : D → Bool) (faults identity : D → ℕ)
     (link_tells : K → Bool) (left written : K → List ℕ) (link_faults link_identity : K → ℕ) where
-  -- a station before and after its work, of a server with this token or none. It began with a new pass of the hall. Each link that its
-  -- door gave was served, in order, on this one pass, and then went back to the door. It ended
-  -- where the door failed, or gave no more
+  -- a station before and after its work, of a server with this token or none. It began with a new
+  -- pass of the hall. Each link that its door gave was served, in order, on this one pass, and then
+  -- went back to the door. It ended where the door failed, or gave no more
   pub record IsWorked (hall : HallKnown) (opened : List NotedMark)
       (before after : Station D AttendantKnown K) : Type 0 where
     pub made : IsNewStation is_out hall opened before

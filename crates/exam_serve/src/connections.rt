@@ -33,8 +33,8 @@ pub(crate) fn either(first: bool, second: bool) -> bool
     first || second
 }
 
-/// What serves the connections of a door, one after another: a caller of the hall, and whether a connection ended for
-/// lack of memory.
+/// What serves the connections of a door, one after another: a caller of the hall, and whether a
+/// connection ended for lack of memory.
 #[derive(Drop)]
 pub struct Attendant<'h, 'a, D: Disk, G: Gate + Observer> {
     caller: PreparingCaller<'h, 'a, D, G>,
@@ -70,8 +70,8 @@ impl<'h, 'a, D: Disk, G: Gate + Observer> Attendant<'h, 'a, D, G> {
     }
 }
 
-/// The connections of a hall: each is served by a caller, whose pass goes from one connection to the next. Where there is a
-/// token, what is asked has to bear it.
+/// The connections of a hall: each is served by a caller, whose pass goes from one connection to
+/// the next. Where there is a token, what is asked has to bear it.
 #[derive(Drop)]
 pub struct Connections<'h, 'a, D: Disk, G: Gate + Observer> {
     pub(crate) hall: &'h Hall<'a, D>,

@@ -6,7 +6,8 @@ ghost use Rattle.exam_serve.specs.Doors.{AreServed, AreFed};
 
 use exam_edge::Door;
 
-/// Where the work ended since each door gave no more links, and for nothing else, no connection ended for lack of memory.
+/// Where the work ended since each door gave no more links, and for nothing else, no connection
+/// ended for lack of memory.
 pub fn no_connection_starved<L: Door>()
     ensures { (token : Option (List ℕ)) (opened closed : List NotedMark) (doors back : List L)
         → AreServed token L.tells L.coming L.returned L.is_out L.faults L.identity

@@ -1,6 +1,6 @@
 //! The work of a server, from an office and doors to the office and the doors.
 
-ghost use Rattle.std.specs.Prelude.{◌≡◌, ◌≤◌, ◌⊎◌, ℕ, [], List, true, false, length, vec_len, vec_capacity, IfOk};
+ghost use Rattle.std.specs.Prelude.{◌≡◌, ◌≤◌, ◌⊎◌, [], List, false, length, vec_len, vec_capacity, IfOk};
 ghost use Rattle.std.specs.List.{All};
 ghost use Rattle.std.specs.Option.{option_copied};
 ghost use Rattle.exam_hall.specs.Known.{HasGrown, IsOf};
@@ -97,7 +97,8 @@ fn room_for<'h, 'a, D: Disk, G: Gate + Observer, L: Door>(
     }
 }
 
-/// Serves the links of the doors at a hall, for messages that bear the token if there is one. There is room for a station for each door.
+/// Serves the links of the doors at a hall, for messages that bear the token if there is one. There
+/// is room for a station for each door.
 fn serve_at<'h, 'a, R, D, L, G>(
     rt: &R,
     alloc: Global,
@@ -159,13 +160,15 @@ where
     end_of(cleared)
 }
 
-/// Serves the connections of each door over one office, which all doors share, the doors in threads of their own, until
-/// each door gives no more links or fails. Where there is a token, a message that does not bear it does nothing, but for a
-/// look at the health. At most 65,535 doors, with no link out. Where no thread can be made, the caller
-/// does that work itself. The office comes back with one list of marks, which begins with those that it had: of each door,
-/// the links that it gave were served in order on one pass, by the bank, the plan and the base form of the office, and came
-/// back to it; what a pass saw is a beginning of that list, no mark is the own of two passes, and each mark that was added is
-/// the own of one. It may wait, and ends only where each door ends.
+/// Serves the connections of each door over one office, which all doors share, the doors in threads
+/// of their own, until each door gives no more links or fails. Where there is a token, a message
+/// that does not bear it does nothing, but for a look at the health. At most 65,535 doors, with no
+/// link out. Where no thread can be made, the caller does that work itself. The office comes back
+/// with one list of marks, which begins with those that it had: of each door, the links that it
+/// gave were served in order on one pass, by the bank, the plan and the base form of the office,
+/// and came back to it; what a pass saw is a beginning of that list, no mark is the own of two
+/// passes, and each mark that was added is the own of one. It may wait, and ends only where each
+/// door ends.
 pub fn serve_doors<'a, R, D, L, G>(
     rt: &R,
     alloc: Global,
@@ -182,12 +185,14 @@ where
     G: Gate + Observer + Sync,
     requires few { vec_len doors ≤ 65535 }
     requires home { All (λ d. L.is_out d ≡ false) doors.items }
-    // So of each byte that a client got at any moment, also of a run that never ends: it is of the responses to its messages,
-    // in order, each right for marks that a pass of this office's hall has seen.
+    // So of each byte that a client got at any moment, also of a run that never ends: it is of the
+    // responses to its messages, in order, each right for marks that a pass of this office's hall
+    // has seen.
     requires fair { AreFairDoors (option_copied token)
         L.Link.tells L.Link.left L.Link.written L.Link.allows L.tells L.coming
         (IsCallerOf (opened_with office) office.marks) doors.items }
-    // What no call changes: the bank, the plan and the base form, which disk it is, and how that was handed in.
+    // What no call changes: the bank, the plan and the base form, which disk it is, and how that
+    // was handed in.
     ensures same { opened_with result.office ≡ opened_with office.entry }
     // The office's marks at the close begin with those that it had at first.
     ensures begins { StartsWith result.office.marks office.entry.marks }
@@ -195,7 +200,8 @@ where
         L.tells L.coming L.returned L.is_out L.faults L.identity
         L.Link.tells L.Link.left L.Link.written L.Link.faults L.Link.identity
         office.entry doors.items result.office result.doors.items result.end }
-    // However it ended: each door is the same object, with no fewer faults, and no link of it is out.
+    // However it ended: each door is the same object, with no fewer faults, and no link of it is
+    // out.
     ensures lent { AreLent L.tells L.identity L.faults L.is_out doors.items result.doors.items }
     // Out of memory, nothing was done.
     ensures unused { result.end ≡ end.Memory

@@ -1,6 +1,6 @@
 //! The stations of a hall: how each door gets one, and how its pass and its door come back.
 
-ghost use Rattle.std.specs.Prelude.{◌≡◌, ◌+◌, ◌<◌, ◌≤◌, ◌++◌, ◌∷◌, ℕ, [], List, true, false, ◌||◌, length, map, vec_len, vec_capacity};
+ghost use Rattle.std.specs.Prelude.{◌≡◌, ◌+◌, ◌<◌, ◌≤◌, ◌++◌, ◌∷◌, [], false, ◌||◌, length, map, vec_len, vec_capacity};
 ghost use Rattle.std.specs.List.{All, list_any};
 ghost use mathlib.Core.List.{reverse};
 ghost use Rattle.turn_lock.specs.Histories.{StartsWith};
@@ -140,7 +140,8 @@ fn clear_station<'h, 'a, D: Disk, G: Gate + Observer, L: Door>(
     Cleared { failed, starved }
 }
 
-/// Joins the passes of the stations, the last station first, and takes their doors back. There is room for them.
+/// Joins the passes of the stations, the last station first, and takes their doors back. There is
+/// room for them.
 pub(crate) fn clear_stations<'h, 'a, D: Disk, G: Gate + Observer, L: Door>(
     hall: &'h Hall<'a, D>,
     pass: &mut Pass<Office<'a, D>>,

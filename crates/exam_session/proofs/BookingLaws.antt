@@ -1,4 +1,5 @@
--- What a search finds among sessions in the order of their bookings, and what an insertion at that place does.
+-- What a search finds among sessions in the order of their bookings, and what an insertion at that
+-- place does.
 use Rattle.std.proofs.Common.{◌≡◌, ℕ, zero, suc, ◌+◌, ◌-◌, ◌<◌, ◌≤◌, ◌==◌, false, cond, List, [], ◌∷◌, ◌++◌, length, get_or, ltb, slice_get, Option, Some, None, refl, sym, ap, ◌∙◌, subst, arith, inl, inr}
 use Rattle.std.specs.List.{insert}
 use Rattle.std.proofs.Math.ListN.{get_or-append}

@@ -16,8 +16,8 @@ use std::alloc::Global;
 const ENTRIES: u64 = 1 << 47;
 
 impl<'a> Book<'a> {
-    /// Makes room for one entry, where there is none: in the lists with an element for each session, and for the seat of the
-    /// next one, only while the plan allows a further one.
+    /// Makes room for one entry, where there is none: in the lists with an element for each
+    /// session, and for the seat of the next one, only while the plan allows a further one.
     pub fn reserve(&mut self, alloc: Global) -> Result<(), Memory>
         ensures bank { self.new.bank ≡ self.old.bank }
         ensures plan { self.new.plan ≡ self.old.plan }

@@ -1,6 +1,6 @@
 //! The book.
 
-ghost use Rattle.std.specs.Prelude.{◌≡◌, ◌↔◌, ℕ, Bool, ◌+◌, ◌<◌, ◌≤◌, [], length, Option, Some, None, IsTrue, IsSome, IfOk, IfSome, IfNone, OnOk, OnErr, if◌then◌else◌};
+ghost use Rattle.std.specs.Prelude.{◌≡◌, ℕ, Bool, ◌+◌, ◌<◌, ◌≤◌, [], length, Option, Some, None, IsSome, IfOk, IfSome, IfNone, if◌then◌else◌};
 ghost use Rattle.std.specs.Vec.{vec_len, vec_capacity};
 ghost use Rattle.bank_tables.specs.Items.{Set};
 ghost use Rattle.bank_tables.specs.Tables.{size};
@@ -14,7 +14,7 @@ ghost use Rattle.shadow_select.specs.Next.{HasFreeItem};
 ghost use Rattle.history_model.specs.declared.place.Place.TheVariants.{Pending, Waiting};
 ghost use Rattle.history_model.specs.Entries.{sessions, is_started, holder, items_in, seat_of};
 ghost use Rattle.history_model.specs.Places.{place};
-ghost use Rattle.history_model.specs.Counts.{counts, finished};
+ghost use Rattle.history_model.specs.Counts.{finished};
 ghost use Rattle.history_model.specs.Draws.{AreDrawn};
 ghost use Rattle.history_model.specs.Refusals.{recorded};
 ghost use Rattle.history_model.specs.Summaries.{summary};
@@ -55,7 +55,8 @@ pub struct Book<'a> {
     /// Those of each band of the plan.
     pub(crate) band_counters: Vec<Counters>,
     pub(crate) totals: Totals,
-    /// For how many entries more there is room, one or none: in the seats and the bookings up to the plan's limit of sessions.
+    /// For how many entries more there is room, one or none: in the seats and the bookings up to
+    /// the plan's limit of sessions.
     pub(crate) room: usize,
 }
 
@@ -197,7 +198,8 @@ impl<'a> Book<'a> {
         }
     }
 
-    /// Whether eligibility is set aside for a session in the band of its estimate now; not where there is no such session.
+    /// Whether eligibility is set aside for a session in the band of its estimate now; not where
+    /// there is no such session.
     pub fn is_aside(&self, session: u32) -> bool
         ensures { result
             ≡ is_aside_now self.now.bank self.now.plan self.now.entries session }
@@ -215,7 +217,8 @@ impl<'a> Book<'a> {
         &self.counters
     }
 
-    /// The exposure counts of the bank's items in a band of the plan, and the number of finished sessions that visited it.
+    /// The exposure counts of the bank's items in a band of the plan, and the number of finished
+    /// sessions that visited it.
     pub fn band_counters(&self, band: u8) -> &Counters
         requires { band < bands_of self.now.plan }
         ensures { AreBandCounts self.now.bank self.now.plan self.now.entries band result.now }

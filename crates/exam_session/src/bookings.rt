@@ -1,7 +1,7 @@
 //! The bookings of a book, and the order of its sessions by them.
 
 ghost use Rattle.std.specs.Prelude.{◌≡◌, ◌+◌, ◌<◌, ◌≤◌, [], ◌∷◌, ◌++◌, List, IsTrue, OnOk, if◌then◌else◌};
-ghost use Rattle.std.specs.Vec.{vec_len, vec_capacity};
+ghost use Rattle.std.specs.Vec.{vec_len};
 ghost use Rattle.bank_tables.specs.Tables.{Tables};
 ghost use Rattle.form_model.specs.Plan.{Plan};
 ghost use Rattle.history_model.specs.declared.entry.Entry.{Entry};
@@ -58,8 +58,8 @@ fn booking_of(bookings: &[u64], session: u32) -> u64
     }
 }
 
-/// The place of a booking among sessions in ascending order of theirs: the bookings before it are lower, and those from it
-/// on are not. It is found by halves.
+/// The place of a booking among sessions in ascending order of theirs: the bookings before it are
+/// lower, and those from it on are not. It is found by halves.
 fn place_for(bookings: &[u64], order: &[u32], booking: u64) -> usize
     requires { IsRising bookings.now order.now }
     ensures { IsPlaceFor bookings.now order.now booking result }

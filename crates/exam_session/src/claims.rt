@@ -46,8 +46,8 @@ fn is_asked(claim: Claim, verdict: Verdict) -> bool
     }
 }
 
-/// Tests whether a tree of so many nodes shows a claim of a problem, with a form or none: NotSpent, then Tree, where it
-/// doesn't.
+/// Tests whether a tree of so many nodes shows a claim of a problem, with a form or none: NotSpent,
+/// then Tree, where it doesn't.
 pub(crate) fn shows(
     problem: &Problem,
     form: Option<&ItemSet>,

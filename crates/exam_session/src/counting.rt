@@ -63,7 +63,8 @@ fn eligible_set(seat: &Seat, band: u8) -> ItemSet
     seat.eligible[band as usize]
 }
 
-/// The items that are available in a band: those eligible there, or all where eligibility is set aside there.
+/// The items that are available in a band: those eligible there, or all where eligibility is set
+/// aside there.
 fn available_items(bank: &Bank, seat: &Seat, band: u8) -> ItemSet
     requires { band < 8 }
     ensures available { (i : ℕ) → i < size bank.now
@@ -78,7 +79,8 @@ fn available_items(bank: &Bank, seat: &Seat, band: u8) -> ItemSet
     }
 }
 
-/// The items that could be served in a band: those that are available there, without those that are withheld.
+/// The items that could be served in a band: those that are available there, without those that are
+/// withheld.
 fn open_items(bank: &Bank, seat: &Seat, band: u8) -> ItemSet
     requires { band < 8 }
     ensures open { (i : ℕ) → i < size bank.now
@@ -142,7 +144,8 @@ fn count_bands(
     }
 }
 
-/// Counts the session that an entry finishes, by its seat before the entry: in all, and in each band that it visited.
+/// Counts the session that an entry finishes, by its seat before the entry: in all, and in each
+/// band that it visited.
 pub(crate) fn count_entry(
     bank: &Bank,
     spec: &Spec,

@@ -53,7 +53,8 @@ fn differences(one: &[ItemSet; 8], other: &[ItemSet; 8]) -> ItemSet
     found
 }
 
-/// The lowest item at which the set of some band differs from its draw; 0 where there isn't a set for each draw.
+/// The lowest item at which the set of some band differs from its draw; 0 where there isn't a set
+/// for each draw.
 pub(crate) fn first_difference(eligible: &Bands, drawn: &Bands) -> Option<u16>
     ensures differ { (b : Tables) (plan : Plan) (H : List Entry) (session : ℕ)
         → AreDrawn b plan H session drawn.now

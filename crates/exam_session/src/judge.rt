@@ -1,6 +1,6 @@
 //! Whether a record may follow the entries of a book.
 
-ghost use Rattle.std.specs.Prelude.{◌≡◌, ℕ, Option, Some, None, IfOk, IfErr};
+ghost use Rattle.std.specs.Prelude.{Option, Some, None, IfOk, IfErr};
 ghost use Rattle.std.specs.Option.{option_copied};
 ghost use Rattle.bank_tables.specs.Items.{Set};
 ghost use Rattle.form_model.specs.Forms.{Form};
@@ -218,8 +218,9 @@ impl<'a> Book<'a> {
         }
     }
 
-    /// Tests whether the record of an entry and its proof tree may follow the entries of the book, and gives otherwise the
-    /// first reason, in the order of `Illegal`'s variants for the record's kind. Takes no memory.
+    /// Tests whether the record of an entry and its proof tree may follow the entries of the book,
+    /// and gives otherwise the first reason, in the order of `Illegal`'s variants for the record's
+    /// kind. Takes no memory.
     pub fn judge_parts(&self, entry: &Entry, tree: Option<&Tree>) -> Result<(), Illegal>
         ensures may { IfOk result
             (λ _. MayFollow self.now.bank self.now.plan self.now.entries entry.now

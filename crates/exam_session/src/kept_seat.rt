@@ -22,8 +22,8 @@ use history_model::{Bands, Entry, Place, Without};
 use serving_model::Seat;
 use std::alloc::Global;
 
-/// The content of a `Seat`, in lists that have room for the items of a test and the bands of the plan and no more, and the
-/// sums of the plan's prior and its answers.
+/// The content of a `Seat`, in lists that have room for the items of a test and the bands of the
+/// plan and no more, and the sums of the plan's prior and its answers.
 #[derive(Drop)]
 pub(crate) struct KeptSeat {
     pub(crate) shown: Vec<u16>,
@@ -31,7 +31,8 @@ pub(crate) struct KeptSeat {
     pub(crate) sums: KeptSums,
     /// The eligible set of each band.
     pub(crate) eligible: Vec<ItemSet>,
-    /// The set of the items withheld, if there is a list of them. A start without one gives its room back.
+    /// The set of the items withheld, if there is a list of them. A start without one gives its
+    /// room back.
     pub(crate) without: Vec<ItemSet>,
     pub(crate) form: Option<ItemSet>,
     /// A bit for each band in which eligibility is set aside.

@@ -1,4 +1,5 @@
-//! What the definitions imply for the records of the first version of the journal, which a book lifts.
+//! What the definitions imply for the records of the first version of the journal, which a book
+//! lifts.
 
 ghost use Rattle.exam_session.specs.Laws.{LegalHasBands, MayIsLifted, LiftedIsOne};
 
@@ -7,7 +8,8 @@ pub fn a_legal_entry_has_bands()
     ensures { LegalHasBands }
 {}
 
-/// What the first version keeps of an entry that may follow is lifted to that entry, if it has no list.
+/// What the first version keeps of an entry that may follow is lifted to that entry, if it has no
+/// list.
 pub fn an_entry_is_lifted_to_itself()
     ensures { MayIsLifted }
 {}

@@ -1,8 +1,8 @@
 //! A book of many examinations: the list of their entries, and the seats, bookings and exposure
 //! counts that follow from it. Upward it promises by its type that each entry is legal after those
 //! before it, that what it reports is what the entries give, and that `judge` lets a record follow
-//! exactly where it may, its proof tree included, and otherwise names the first reason. `lift` makes
-//! of a record of the first version of the journal the one of today. The book writes no
+//! exactly where it may, its proof tree included, and otherwise names the first reason. `lift`
+//! makes of a record of the first version of the journal the one of today. The book writes no
 //! journal and assembles no form. Only `new` and `reserve` take memory.
 #![tactic(auto)]
 

@@ -20,7 +20,8 @@ fn first_set(sets: &[ItemSet; 8]) -> ItemSet
 }
 
 impl<'a> Book<'a> {
-    /// The sets of a start: in the band where each session begins that of the record, and in each other band the draw.
+    /// The sets of a start: in the band where each session begins that of the record, and in each
+    /// other band the draw.
     fn lift_sets(&self, session: u32, old: &Bands) -> Bands
         ensures lifted { AreLifted self.now.bank self.now.plan self.now.entries session old.now
             result }
@@ -76,9 +77,10 @@ impl<'a> Book<'a> {
         }
     }
 
-    /// A record of the first version as one of today, after the entries of the book: a start gets its
-    /// draw in the bands that the record has no set of, and a setting aside the step and the band of its session, if the
-    /// session waits for an item. Every other record stays as it is, and none gets a list. Takes no memory.
+    /// A record of the first version as one of today, after the entries of the book: a start gets
+    /// its draw in the bands that the record has no set of, and a setting aside the step and the
+    /// band of its session, if the session waits for an item. Every other record stays as it is,
+    /// and none gets a list. Takes no memory.
     pub fn lift(&self, old: Record) -> Record
         ensures entry { IsLifted self.now.bank self.now.plan self.now.entries old.entry
             result.entry }

@@ -87,7 +87,8 @@ fn change_seat(bank: &Bank, seats: &mut [KeptSeat], entry: &Entry)
     seats[session].note(bank, entry);
 }
 
-/// Notes an entry in the seats: a start adds the spare one, any other entry changes that of its session.
+/// Notes an entry in the seats: a start adds the spare one, any other entry changes that of its
+/// session.
 pub(crate) fn note_seat(
     bank: &Bank,
     seats: &mut Vec<KeptSeat>,

@@ -6,7 +6,8 @@ ghost use Rattle.exam_session.specs.Totals.{HaveRoom, totals_with};
 
 use history_model::Entry;
 
-/// The items served, by their marks; the sessions for which eligibility was set aside; and the nodes of the trees of both.
+/// The items served, by their marks; the sessions for which eligibility was set aside; and the
+/// nodes of the trees of both.
 #[derive(Clone, Copy)]
 pub(crate) struct Totals {
     pub(crate) proved: u64,

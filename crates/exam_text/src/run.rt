@@ -1,6 +1,6 @@
 //! A run of items, as a word of a set of items.
 
-ghost use Rattle.std.specs.Prelude.{◌≡◌, ℕ, ◌+◌, ◌<◌, ◌≤◌, ◌++◌, length, Some, None, IfSome, OnOk, map, is_some};
+ghost use Rattle.std.specs.Prelude.{◌≡◌, ◌+◌, ◌<◌, ◌≤◌, ◌++◌, length, Some, None, IfSome, OnOk, map, is_some};
 ghost use Rattle.exam_text.specs.Runs.{IsRun, dash_at, run_between, run_of, run_word, behind, fits};
 ghost use Rattle.exam_text.specs.Words.{word};
 ghost use Rattle.exam_text.specs.Numbers.{number_of};
@@ -44,7 +44,8 @@ fn run_between(low: Option<u16>, high: Option<u16>) -> Option<Run>
     }
 }
 
-/// The run that a word writes: an item's number up to 511, or two with a dash between them, the second greater.
+/// The run that a word writes: an item's number up to 511, or two with a dash between them, the
+/// second greater.
 #[tactic(auto, unfolding(crate::specs::Runs::run_of))]
 pub fn run_of(text: &[u8]) -> Option<Run>
     ensures value { result ≡ run_of text.now }

@@ -19,7 +19,8 @@ pub fn words_of(alloc: Global, line: &[u8]) -> Result<Vec<&[u8]>, AllocError>
     parts_at(alloc, b' ', line)
 }
 
-/// The lines of a text, without their line feeds, empty lines too. The last one may lack its line feed.
+/// The lines of a text, without their line feeds, empty lines too. The last one may lack its line
+/// feed.
 pub fn lines_of(alloc: Global, text: &[u8]) -> Result<Vec<&[u8]>, AllocError>
     ensures { IfOk result (λ v. map (λ w. w.now) v.items ≡ lines_of text.now) }
 {

@@ -1,4 +1,5 @@
-//! Sessions under plans with bands of abilities: their items, the exposure, journals that go on, and what is refused.
+//! Sessions under plans with bands of abilities: their items, the exposure, journals that go on,
+//! and what is refused.
 
 use crate::outcome::{CHECK, REPLAY, expect_audit, expect_second_run, expect_text};
 use trial_cases::{BANK_A, PLAN_A};
@@ -22,8 +23,8 @@ key 0000000000000000000000000000000000000000000000000000000000000000
 bands 2
 ";
 
-/// Items 1, 2 and 3 are shown in the lower band, so they are not eligible there for session 1. Its first response raises the
-/// estimate to the upper band, where each item is eligible.
+/// Items 1, 2 and 3 are shown in the lower band, so they are not eligible there for session 1. Its
+/// first response raises the estimate to the upper band, where each item is eligible.
 const SCRIPT_UP: &str =
     "begin 70\nanswer 0 0 0\nanswer 0 1 0\nanswer 0 2 0\nbegin 71\nanswer 1 0 1\nanswer 1 1 1\nclose 1\nexposure\n";
 
@@ -44,7 +45,8 @@ item 4 shown 1 eligible 2
 item 5 shown 1 eligible 2
 ";
 
-/// Three items of two points each. Response 1 to item 0 or 1 raises the estimate from the lower band to the upper one.
+/// Three items of two points each. Response 1 to item 0 or 1 raises the estimate from the lower
+/// band to the upper one.
 const BANK_TWO: &str = "item,stimulus,categories,i0,i1,l0_0,l0_1,l1_0,l1_1
 0,0,2,9,1,-1,-1,-9,-1
 1,0,2,8,5,-1,-1,-9,-1
@@ -74,8 +76,9 @@ session 1 complete
 session 2 step 0 item 0 proved
 ";
 
-/// Eligibility was set aside for session 2 in the lower band. It is set aside in the upper one when the session comes there:
-/// there items 1 and 2 were shown, and item 0 is given, so no form is left.
+/// Eligibility was set aside for session 2 in the lower band. It is set aside in the upper one when
+/// the session comes there: there items 1 and 2 were shown, and item 0 is given, so no form is
+/// left.
 const REST_TWO: &str = "answer 2 0 1\nanswer 2 1 0\nexposure\n";
 
 const LINES_REST: &str = "session 2 step 1 item 1 proved
@@ -95,8 +98,8 @@ fn items_by_band(rt: HostRuntime) {
     expect_second_run(&rt, &begun, &rest, LINES_REST);
 }
 
-/// Under a plan with bands, a response that lowers the estimate brings its session back to the lower band; without bands,
-/// the items that are not eligible stay so.
+/// Under a plan with bands, a response that lowers the estimate brings its session back to the
+/// lower band; without bands, the items that are not eligible stay so.
 #[test]
 fn items_of_the_lower_band(rt: HostRuntime) {
     let front = "session 0 step 0 item 2 proved
@@ -136,7 +139,8 @@ item 2 shown 1 eligible 3
     );
 }
 
-/// What an audit finds after `SCRIPT_UP`. Item 1 counts in both bands, and twice in all; session 0 did not visit the upper one.
+/// What an audit finds after `SCRIPT_UP`. Item 1 counts in both bands, and twice in all; session 0
+/// did not visit the upper one.
 const AUDIT_UP: [&str; 2] = [
     "entries 14 sessions 2 finished 2 proved 6 unproved 0 aside 0 nodes ",
     "
@@ -204,8 +208,8 @@ fn exposure_by_band(rt: HostRuntime) {
     expect_audit(&rt, &[BANK_A, PLAN_A, "begin 70\nclose 0\n"], &AUDIT_ONE);
 }
 
-/// Points at which no band begins: one that is not of the grid of three points, the lowest one, two that do not rise, and
-/// eight points.
+/// Points at which no band begins: one that is not of the grid of three points, the lowest one, two
+/// that do not rise, and eight points.
 const NO_BANDS: [&str; 5] = ["3", "0", "2 1", "1 1", "1 2 3 4 5 6 7 8"];
 
 #[test]

@@ -1,6 +1,7 @@
-//! The twenty steps of bank L: 120 items in twelve categories of ten, of which the first six have a passage of two items, and
-//! a plan with 18 rows. In each category the items before another have more information at each point, so the form is always
-//! that of the first items of each category. A search that never improves its multipliers does not end in time.
+//! The twenty steps of bank L: 120 items in twelve categories of ten, of which the first six have a
+//! passage of two items, and a plan with 18 rows. In each category the items before another have
+//! more information at each point, so the form is always that of the first items of each category.
+//! A search that never improves its multipliers does not end in time.
 
 use crate::outcome::{REPLAY, expect_text};
 use std::alloc::Global;

@@ -20,8 +20,9 @@ close 1 for 71
 look 0
 ";
 
-/// Item 4 follows a right answer to item 2. A booking that is not the session's is refused before the step, the recorded
-/// response and the end of the session are looked at, and after the number of the session.
+/// Item 4 follows a right answer to item 2. A booking that is not the session's is refused before
+/// the step, the recorded response and the end of the session are looked at, and after the number
+/// of the session.
 const LINES: &str = "refused no-session 0
 session 0 step 0 item 2 proved
 session 1 step 0 item 2 proved
@@ -43,7 +44,8 @@ fn another_booking_changes_nothing(rt: HostRuntime) {
     expect_text(&rt, &REPLAY, &[BANK_A, PLAN_A, SCRIPT], 0, LINES);
 }
 
-/// A second run over the journal knows whose the sessions are. A line that names no booking is as before.
+/// A second run over the journal knows whose the sessions are. A line that names no booking is as
+/// before.
 #[test]
 fn a_second_run_knows_the_booking(rt: HostRuntime) {
     let second =

@@ -214,7 +214,8 @@ fn a_server_with_two_doors(rt: HostRuntime) {
     }
 }
 
-/// The call that waits for nobody takes words that ask for no server, and neither to follow nor to ship.
+/// The call that waits for nobody takes words that ask for no server, and neither to follow nor to
+/// ship.
 #[test]
 fn a_session_of_bank_a_alone(rt: HostRuntime) {
     let alloc = rt.alloc();

@@ -18,7 +18,8 @@ fn summary_of<R: Abort>(rt: &R, alloc: Global, number: u32, sessions: u32) -> Su
     }
 }
 
-/// Entries, sessions, finished sessions, items served, and sessions in which eligibility was set aside.
+/// Entries, sessions, finished sessions, items served, and sessions in which eligibility was set
+/// aside.
 fn numbers_of(summary: &Summary) -> [u64; 5] {
     [
         summary.entries,
@@ -29,8 +30,8 @@ fn numbers_of(summary: &Summary) -> [u64; 5] {
     ]
 }
 
-/// Two sessions: 2 starts, 31 items served, 30 answers and the close of the last session. The second
-/// run gives the same.
+/// Two sessions: 2 starts, 31 items served, 30 answers and the close of the last session. The
+/// second run gives the same.
 #[test]
 fn two_sessions(rt: HostRuntime) {
     let summary = summary_of(&rt, rt.alloc(), 7, 2);
@@ -38,8 +39,8 @@ fn two_sessions(rt: HostRuntime) {
     expect_equal(&rt, &summary_of(&rt, rt.alloc(), 7, 2), &summary);
 }
 
-/// Ten sessions: 10 starts, 191 items served, 190 answers and the close of the last session. All start
-/// before one is finished, so every item is eligible for each.
+/// Ten sessions: 10 starts, 191 items served, 190 answers and the close of the last session. All
+/// start before one is finished, so every item is eligible for each.
 #[test]
 fn ten_sessions(rt: HostRuntime) {
     let summary = summary_of(&rt, rt.alloc(), 1, 10);

@@ -1,6 +1,7 @@
 //! Comparisons.
 //!
-//! A function is dear to prove where it compares several values itself, so each comparison is a call of a function here.
+//! A function is dear to prove where it compares several values itself, so each comparison is a
+//! call of a function here.
 
 use std::fmt::Debug;
 use std::process::Abort;

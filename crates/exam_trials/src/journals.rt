@@ -37,8 +37,8 @@ fn payload_length(journal: &[u8], gate: usize) -> usize {
     length
 }
 
-/// The greatest place of a gate below a size. The first gate is at 8, and the next is after a length of four bytes and the
-/// payload.
+/// The greatest place of a gate below a size. The first gate is at 8, and the next is after a
+/// length of four bytes and the payload.
 fn last_gate(journal: &[u8], size: usize) -> usize {
     let mut gate = 8usize;
     for _ in 0..size {

@@ -1,6 +1,9 @@
-//! Tests of the program as a whole over files and a sink in memory: worked sessions, the statuses and their texts, and each
-//! failing call; and journals of the first version, which are refused, or moved; and records that are shipped to a follower. What is expected is in the worked cases, or was worked out by hand. And of the drill: its texts against those
-//! of a second source, its summary, and the lines that it prints. It promises nothing upward and holds no code of the product.
+//! Tests of the program as a whole over files and a sink in memory: worked sessions, the statuses
+//! and their texts, and each failing call; and journals of the first version, which are refused, or
+//! moved; and records that are shipped to a follower. What is expected is in the worked cases, or
+//! was worked out by hand. And of the drill: its texts against those of a second source, its
+//! summary, and the lines that it prints. It promises nothing upward and holds no code of the
+//! product.
 #![tactic(auto)]
 
 #[cfg(test)]

@@ -1,6 +1,7 @@
-//! Records that a leader ships to a follower, over doors in memory: the seven of the worked session.
+//! Records that a leader ships to a follower, over doors in memory: the seven of the worked
+//! session.
 
-ghost use Rattle.std.specs.Prelude.{◌≡◌, ◌≤◌, false, vec_len, IfSome};
+ghost use Rattle.std.specs.Prelude.{◌≡◌, ◌≤◌, false, vec_len};
 ghost use Rattle.std.specs.List.{All};
 ghost use Rattle.exam_edge.specs.MemoryDoor.{out_of};
 
@@ -26,8 +27,8 @@ const REFUSED_7: [u8; 21] = [
 const SEVEN: &str =
     "following 7\nentries 7 sessions 1 finished 1 proved 3 unproved 0 aside 0 nodes ";
 
-/// What the program is given: a journal, the bytes of a link, and the numbers of the calls that fail, of the disk, the door and
-/// the link.
+/// What the program is given: a journal, the bytes of a link, and the numbers of the calls that
+/// fail, of the disk, the door and the link.
 #[derive(Clone, Copy)]
 struct Trial<'j, 'l, 'f> {
     journal: &'j [u8],
@@ -257,7 +258,8 @@ fn other_offers_leave_the_file(rt: HostRuntime) {
     expect_following(&rt, &journal, &REFUSED_7, 21, "offer 7 refused\n", 1);
 }
 
-/// A follower of three records whose disk fails at a call of the fourth delivery goes on with so many records.
+/// A follower of three records whose disk fails at a call of the fourth delivery goes on with so
+/// many records.
 fn expect_stop_at<R: Abort + AllocGlobal + Threads + Wait + Sync>(
     rt: &R,
     journal: &[u8],

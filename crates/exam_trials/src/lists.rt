@@ -1,4 +1,5 @@
-//! Sessions with a list of items that the examinee must not get, on bank A. What is expected was worked out by hand.
+//! Sessions with a list of items that the examinee must not get, on bank A. What is expected was
+//! worked out by hand.
 
 use crate::outcome::{REPLAY, expect_second_run, expect_text};
 use trial_cases::{BANK_A, PLAN_A};
@@ -15,8 +16,9 @@ close 1
 exposure
 ";
 
-/// Without item 2 the best form is {1, 3, 5}, and item 1 is its best at the start. Each form has one of the items 0 and 1, and
-/// one of the items 3, 4 and 5. Item 2 was not eligible for session 1, which is the one that is finished.
+/// Without item 2 the best form is {1, 3, 5}, and item 1 is its best at the start. Each form has
+/// one of the items 0 and 1, and one of the items 3, 4 and 5. Item 2 was not eligible for session
+/// 1, which is the one that is finished.
 const LINES: &str = "session 0 step 0 item 2 proved
 session 1 step 0 item 1 proved
 refused other-list 1

@@ -152,7 +152,8 @@ pub fn outcome<R: Abort + AllocGlobal + Threads + Wait + Sync>(
     ran_of(rt, alloc, finish.status, &finish.out, &finish.disk)
 }
 
-/// Over an empty journal, and where no call fails, the program ends with this status and prints this text.
+/// Over an empty journal, and where no call fails, the program ends with this status and prints
+/// this text.
 pub fn expect_text<R: Abort + AllocGlobal + Threads + Wait + Sync>(
     rt: &R,
     words: &[&str],
@@ -165,7 +166,8 @@ pub fn expect_text<R: Abort + AllocGlobal + Threads + Wait + Sync>(
     expect_equal(rt, &ran.status, &status);
 }
 
-/// Over an empty journal, and where no call fails, the program ends with this status and prints a text that begins so.
+/// Over an empty journal, and where no call fails, the program ends with this status and prints a
+/// text that begins so.
 pub fn expect_front<R: Abort + AllocGlobal + Threads + Wait + Sync>(
     rt: &R,
     words: &[&str],
@@ -201,7 +203,8 @@ pub fn expect_second_run<R: Abort + AllocGlobal + Threads + Wait + Sync>(
     expect_text_over(rt, &ran.journal, second, text);
 }
 
-/// The audit of the journal that a replay left prints a text that begins and ends so, and leaves the journal as it was.
+/// The audit of the journal that a replay left prints a text that begins and ends so, and leaves
+/// the journal as it was.
 pub fn expect_audit<R: Abort + AllocGlobal + Threads + Wait + Sync>(
     rt: &R,
     texts: &[&str; 3],

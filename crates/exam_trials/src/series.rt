@@ -3,8 +3,6 @@
 use crate::equal::expect_equal;
 use crate::outcome::{CALM, expect_front, expect_text, outcome};
 use crate::texts::{BANK_E, BANK_ODD};
-use std::alloc::AllocGlobal;
-use std::process::Abort;
 use std::sync::Wait;
 use std::thread::Threads;
 use trial_cases::BANK_A;
@@ -27,8 +25,8 @@ fn after_first_line(text: &[u8]) -> &[u8] {
     }
 }
 
-/// At the middle point the items of bank A have the information 5, 8, 9, 6, 4 and 7. Two pairs apart have at least 15 only as
-/// 8 and 7, 9 and 6.
+/// At the middle point the items of bank A have the information 5, 8, 9, 6, 4 and 7. Two pairs
+/// apart have at least 15 only as 8 and 7, 9 and 6.
 #[test]
 fn the_weaker_form_is_as_strong_as_can_be(rt: HostRuntime) {
     let ran = outcome(&rt, &OF_TWO, &[BANK_A, PLAN_OF_TWO, ""], &CALM);
@@ -60,7 +58,8 @@ fn weights_that_are_not_the_grids(rt: HostRuntime) {
     }
 }
 
-/// Of the items 0, 1 and 2 one may be in a form, so the best form has 10 and 2. Two halves and a whole one would have more.
+/// Of the items 0, 1 and 2 one may be in a form, so the best form has 10 and 2. Two halves and a
+/// whole one would have more.
 #[test]
 fn a_series_that_is_not_proved_best(rt: HostRuntime) {
     let plan = "length 2\nprior 0\nbase-budget 1\nenemies 0 1\nenemies 1 2\nenemies 0 2\n";

@@ -36,7 +36,8 @@ session 0 step 3 item 4 proved
         [BANK_TIE, "length 2\nprior 0\ncount 1 1 0\n", "begin 1\n"],
         "session 0 step 0 item 0 proved\n",
     ),
-    // One node isn't enough to prove the form {0, 3}, which no exchange of one item betters; {2, 4} is such a form's worse.
+    // One node isn't enough to prove the form {0, 3}, which no exchange of one item betters; {2, 4}
+    // is such a form's worse.
     ([BANK_E, PLAN_E, "begin 1\n"], UNPROVED),
     (
         [
@@ -46,8 +47,9 @@ session 0 step 3 item 4 proved
         ],
         UNPROVED,
     ),
-    // At the rate 1 in 65,535, and with the key of zeros, the counts of finished sessions draw which items the next one may be
-    // shown; a session that no form is left for is served with all of them.
+    // At the rate 1 in 65,535, and with the key of zeros, the counts of finished sessions draw
+    // which items the next one may be shown; a session that no form is left for is served with all
+    // of them.
     (
         [
             BANK_A,
@@ -99,7 +101,8 @@ fn sessions(rt: HostRuntime) {
 
 const TWO_BEGUN: &str = "begin 1\nbegin 2\nanswer 0 0 1\nclose 1\n";
 
-/// A second run goes on from the journal of the first. A refused request prints its refusal, and the run goes on.
+/// A second run goes on from the journal of the first. A refused request prints its refusal, and
+/// the run goes on.
 #[test]
 fn a_second_run_goes_on(rt: HostRuntime) {
     let second =

@@ -125,7 +125,8 @@ fn what_check_prints(rt: HostRuntime) {
     }
 }
 
-/// Texts of a plan and a script, each with the status and the text that `replay` prints over bank A.
+/// Texts of a plan and a script, each with the status and the text that `replay` prints over bank
+/// A.
 const REPLAYED: [(&str, &str, u8, &str); 4] = [
     (PLAN_A, "answer 0 0\n", 5, "script: line 1\n"),
     (PLAN_A, "", 0, ""),
@@ -151,8 +152,9 @@ fn what_replay_prints(rt: HostRuntime) {
     }
 }
 
-/// Files that are refused, each with the text of its fault. One of the first version is refused for that only where nothing is
-/// wrong with its frames; then it may have no record, or one that no version has. A mark is no record of the second version.
+/// Files that are refused, each with the text of its fault. One of the first version is refused for
+/// that only where nothing is wrong with its frames; then it may have no record, or one that no
+/// version has. A mark is no record of the second version.
 const NO_JOURNALS: [(&str, &str); 8] = [
     ("no journal", "journal: header\n"),
     ("SHADOWJ2\u{1}\0\0\0\u{1}\u{9}\0", "journal: record at 8\n"),

@@ -17,7 +17,8 @@ pub const BANK_S: &str = "item,stimulus,categories,i0,i1,l0_0,l0_1,l1_0,l1_1
 4,0,2,7,1,-1,-1,-1,-1
 ";
 
-/// The items 0, 1 and 2 are enemies of each other, and no multipliers show that only one of them is in a form.
+/// The items 0, 1 and 2 are enemies of each other, and no multipliers show that only one of them is
+/// in a form.
 pub const BANK_E: &str = "item,stimulus,categories,i0,l0_0,l1_0
 0,0,2,10,-1,-1
 1,0,2,9,-1,-1

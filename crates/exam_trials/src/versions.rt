@@ -19,7 +19,8 @@ const SERVED: &[u8] = b"\x01\0\0\0\x57\x03\0\0\0\0\0\0\0\x02\x0e";
 /// Its form is proved by one node, and the tree is this; then a closed gate.
 const PROVED: &[u8] = b"\x01\0\x01\x01\0\x01\0\x03\0\0\0\x01\x03\0\0";
 
-/// The journal of a session of bank A that waits for its first response, as the first version has it.
+/// The journal of a session of bank A that waits for its first response, as the first version has
+/// it.
 fn old_journal<R: Abort + AllocGlobal>(rt: &R) -> Vec<u8> {
     let mut journal = bytes_of(rt, rt.alloc(), b"SHADOWJ1");
     for piece in [STARTED, &[0; 63], SERVED, &[0; 63], PROVED] {
@@ -28,7 +29,8 @@ fn old_journal<R: Abort + AllocGlobal>(rt: &R) -> Vec<u8> {
     journal
 }
 
-/// What the program does on these words and this plan over this journal; these calls of the disk fail.
+/// What the program does on these words and this plan over this journal; these calls of the disk
+/// fail.
 fn over<'x, R: Abort + AllocGlobal + Threads + Wait + Sync>(
     rt: &R,
     words: &[&str],
@@ -55,7 +57,8 @@ fn sessions_over_the_first_version(rt: HostRuntime) {
     }
 }
 
-/// It is moved, and stays so. The old records and their closed gate are its front, and the gate is open.
+/// It is moved, and stays so. The old records and their closed gate are its front, and the gate is
+/// open.
 #[test]
 fn a_journal_is_moved(rt: HostRuntime) {
     let old = old_journal(&rt);
@@ -79,8 +82,8 @@ fn a_journal_is_moved(rt: HostRuntime) {
     expect_end(&rt, &shown, 0, b"session 0 step 0 item 2 proved\n", journal);
 }
 
-/// Whether this call of the disk is one of that migration. If it fails, the journal keeps its history, and can be moved after
-/// that.
+/// Whether this call of the disk is one of that migration. If it fails, the journal keeps its
+/// history, and can be moved after that.
 fn fails<R: Abort + AllocGlobal + Threads + Wait + Sync>(
     rt: &R,
     call: u64,
@@ -112,8 +115,8 @@ fn each_failing_call_of_a_migration(rt: HostRuntime) {
     panic!(&rt; "a migration with more calls");
 }
 
-/// Journals that are not moved, each with the status and the text. One without a record that is of the first version is moved:
-/// its mark and the closed gate are seven bytes.
+/// Journals that are not moved, each with the status and the text. One without a record that is of
+/// the first version is moved: its mark and the closed gate are seven bytes.
 const OTHERS: [(&str, u8, &str); 6] = [
     ("", 0, "migrated 0 records length 0\n"),
     ("SHADOWJ1\0", 0, "migrated 0 records length 9\n"),
@@ -158,8 +161,8 @@ fn the_limit_of_a_migration(rt: HostRuntime) {
     expect_bytes(&rt, &ran.text, b"migrated 2 records length 364\n");
 }
 
-/// The journal of the first version that was written under a plan of two bands: of each part the first bytes, and then so many
-/// zeros.
+/// The journal of the first version that was written under a plan of two bands: of each part the
+/// first bytes, and then so many zeros.
 const OF_BANDS: [(&str, usize); 9] = [
     ("534841444f574a31010000004d010000000000000000000000463f", 63),
     ("01000000570300000000000000020e", 63),
@@ -199,7 +202,8 @@ fn journal_of_bands<R: Abort + AllocGlobal>(rt: &R) -> Vec<u8> {
     journal
 }
 
-/// Its records get the sets of the other band, and an audit finds the same in both bands before and after.
+/// Its records get the sets of the other band, and an audit finds the same in both bands before and
+/// after.
 #[test]
 fn a_journal_of_bands_is_moved(rt: HostRuntime) {
     let old = journal_of_bands(&rt);

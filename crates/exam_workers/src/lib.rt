@@ -1,10 +1,11 @@
-//! Workers: the links of each door are served one after another, on that door's token, and the doors in threads of
-//! their own. Upward: each link that a door gave was served once, in order, on the token that the one before it left,
-//! and then came back to its door; a station has failed exactly where the last call of its door did. It knows nothing
-//! of what a service does with a link, and promises nothing on time.
+//! Workers: the links of each door are served one after another, on that door's token, and the
+//! doors in threads of their own. Upward: each link that a door gave was served once, in order, on
+//! the token that the one before it left, and then came back to its door; a station has failed
+//! exactly where the last call of its door did. It knows nothing of what a service does with a
+//! link, and promises nothing on time.
 #![tactic(auto)]
 
-ghost use Rattle.std.specs.Prelude.{◌≡◌, ℕ, true, false, All, Contains, IsTrue, MatchBool, length};
+ghost use Rattle.std.specs.Prelude.{◌≡◌, true, false, All, Contains, IsTrue, MatchBool, length};
 ghost use Rattle.std.specs.Thread.{IsSync};
 ghost use Rattle.exam_workers.specs.Stations.{ServesLink, Serves, Ends, EachServes, IsFair};
 
@@ -22,11 +23,12 @@ pub trait Service<K: Link> {
     /// What it does: of the token and the link before, and of both after.
     ghost serves: { Self → Self.Token → K → Self.Token → K → Type 0 };
 
-    /// What it asks of a link before it serves it on a token: that all is allowed that it may write.
+    /// What it asks of a link before it serves it on a token: that all is allowed that it may
+    /// write.
     ghost fair: { Self → Self.Token → K → Type 0 };
 
-    /// Serves one link to its end. That threads may share `rt` is a clause too: a method of an impl doesn't know it by the
-    /// bound.
+    /// Serves one link to its end. That threads may share `rt` is a clause too: a method of an impl
+    /// doesn't know it by the bound.
     fn serve<R: Wait + Sync>(&self, rt: &R, alloc: Global, token: &mut Self::Token, link: &mut K)
         requires shared { IsSync R.row }
         requires fair { fair self.now token.old link.old }
@@ -122,9 +124,10 @@ fn work<L: Door, S: Service<L::Link>, R: Wait + Sync>(
     unreachable!()
 }
 
-/// Serves the links of each station, the stations in threads of their own, until each door gives no more or fails. No
-/// link of a station's door may be out before, and each link that it may give has to be fair. Where no thread can be made,
-/// the caller does that work itself, one station after another.
+/// Serves the links of each station, the stations in threads of their own, until each door gives no
+/// more or fails. No link of a station's door may be out before, and each link that it may give has
+/// to be fair. Where no thread can be made, the caller does that work itself, one station after
+/// another.
 pub fn run_workers<L: Door + Send, S: Service<L::Link> + Sync, R: Threads + Wait + Sync>(
     rt: &R,
     alloc: Global,

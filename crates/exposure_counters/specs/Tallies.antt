@@ -1,5 +1,5 @@
--- Running exposure counts (item-ineligibility control; van der Linden and Veldkamp, Journal of Educational and Behavioral
--- Statistics, 2004).
+-- Running exposure counts (item-ineligibility control; van der Linden and Veldkamp, Journal of
+-- Educational and Behavioral Statistics, 2004).
 use Rattle.std.specs.Prelude.{◌≡◌, ℕ, ◌+◌, ◌≤◌, Bool, List, length, get_or, count_by, if◌then◌else◌}
 use Rattle.bank_tables.specs.Items.{Set}
 use Rattle.history_model.specs.declared.counts.Counts.{Counts}
@@ -15,7 +15,8 @@ no_counts = record { alpha = 0; eps = 0 }
 abbrev pub counts_at : Tally → ℕ → Counts
 counts_at tally i = get_or tally.counts i no_counts
 
--- what is true of every tally: at most 512 items and 65,536 sessions, and no item counts more sessions than there were
+-- what is true of every tally: at most 512 items and 65,536 sessions, and no item counts more
+-- sessions than there were
 pub record IsTally (tally : Tally) : Type 0 where
   pub few_items : length tally.counts ≤ 512
   pub few_sessions : tally.finished ≤ 65536
@@ -31,7 +32,8 @@ pub record FinishedSession : Type 0 where
   pub shown : Set
   pub eligible : Set
 
--- the tally is that of these sessions: each item counts those in which it was shown, and those in which it was eligible
+-- the tally is that of these sessions: each item counts those in which it was shown, and those in
+-- which it was eligible
 pub record IsTallyOf (sessions : List FinishedSession) (tally : Tally) : Type 0 where
   pub alpha : (i : ℕ) → (counts_at tally i).alpha ≡ count_by (λ session. session.shown i) sessions
   pub eps : (i : ℕ) → (counts_at tally i).eps ≡ count_by (λ session. session.eligible i) sessions

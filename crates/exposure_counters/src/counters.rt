@@ -67,7 +67,8 @@ impl Counters {
         })
     }
 
-    /// Adds one to alpha of each item shown, to eps of each item eligible, and to the number of sessions.
+    /// Adds one to alpha of each item shown, to eps of each item eligible, and to the number of
+    /// sessions.
     fn add_session(&mut self, shown: &ItemSet, eligible: &ItemSet)
         requires shown { (i : ℕ) → IsTrue (has shown.now i) → i < length self.old.counts }
         requires eligible { (i : ℕ) → IsTrue (has eligible.now i) → i < length self.old.counts }
@@ -82,8 +83,8 @@ impl Counters {
         self.finished += 1;
     }
 
-    /// Counts one finished session: the items shown in it, and the items that were eligible (all, where eligibility was set
-    /// aside).
+    /// Counts one finished session: the items shown in it, and the items that were eligible (all,
+    /// where eligibility was set aside).
     #[tactic(auto, using(crate::proofs::TallyLaws::one_more))]
     pub fn finish(&mut self, shown: &ItemSet, eligible: &ItemSet)
         requires shown { (i : ℕ) → IsTrue (has shown.now i) → i < length self.old.counts }

@@ -1,5 +1,5 @@
-//! Tests of a follower over an office, and of an office that ships to it: the worked session over links and disks in memory.
-//! It promises nothing upward and holds no code of the product.
+//! Tests of a follower over an office, and of an office that ships to it: the worked session over
+//! links and disks in memory. It promises nothing upward and holds no code of the product.
 #![tactic(auto)]
 
 #[cfg(test)]

@@ -90,7 +90,8 @@ fn other_offers_leave_the_file(rt: HostRuntime) -> Result<(), AllocError> {
     Ok(())
 }
 
-// A follower of three records stops at a call of the disk of the fourth delivery, with so many records on its disk.
+// A follower of three records stops at a call of the disk of the fourth delivery, with so many
+// records on its disk.
 fn expect_stop_at<R: Abort + Wait>(
     rt: &R,
     alloc: Global,

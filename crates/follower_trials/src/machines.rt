@@ -1,6 +1,5 @@
 //! A leader and a follower of the worked plan, over files in memory.
 
-ghost use Rattle.std.specs.Prelude.{◌≡◌};
 ghost use Rattle.form_model.specs.Validity.{IsPlanFor};
 ghost use Rattle.answer_journal.specs.Standing.{IsAsLeft};
 ghost use Rattle.exam_edge.specs.MemoryDisk.{accounts_of};

@@ -1,4 +1,5 @@
--- Each set of items below n is that of a mask below 2 ^ n, which has as many ones as the set has items.
+-- Each set of items below n is that of a mask below 2 ^ n, which has as many ones as the set has
+-- items.
 use Rattle.std.proofs.Common.{◌≡◌, ℕ, zero, suc, ◌+◌, ◌-◌, ◌*◌, ◌/◌, ◌%◌, ◌^◌, ◌<◌, ◌==◌, Bool, true, false, cond, refl, sym, ap, ap₂, ◌∙◌, arith, inl, inr, ◌⊎◌, pow-suc, add_assoc, zero-add, add-zero}
 use Rattle.std.proofs.lemmas.Bool.{lt-ltb, le-ltb, cases_lt, cases_eq}
 use Rattle.std.proofs.lemmas.Nat.Bits.{bit_at_cat_low, bit_at_cat_high, bit_at-suc, bit_at_lowest}

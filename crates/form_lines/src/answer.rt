@@ -99,8 +99,8 @@ fn lines_of(
     }
 }
 
-/// The lines of a series of so many forms of the plan, 1 to 4, assembled by these weights of the grid's points within the base
-/// budget, or why there are none. A weight is at most 1,000.
+/// The lines of a series of so many forms of the plan, 1 to 4, assembled by these weights of the
+/// grid's points within the base budget, or why there are none. A weight is at most 1,000.
 pub fn series_lines(
     alloc: Global,
     bank: &Bank,
@@ -112,10 +112,12 @@ pub fn series_lines(
     requires some_forms { 0 < forms }
     requires few_forms { forms ≤ 4 }
     requires weights { (g : ℕ) → get_or weights.now g 0 ≤ 1000 }
-    // The weights are the grid's, and the lines are those of a series with its value, its mark and its tree.
+    // The weights are the grid's, and the lines are those of a series with its value, its mark and
+    // its tree.
     ensures lines { IfOk result (λ text. AreWeightsFor bank.now weights.now
         × TellsSeries (series_problem bank.now spec.now weights.now forms) text.items) }
-    // The weights are not the grid's; or there is no series; or the base budget was spent with none found; or memory ran out.
+    // The weights are not the grid's; or there is no series; or the base budget was spent with none
+    // found; or memory ran out.
     ensures ends { IfErr result (IsEnd bank.now spec.now weights.now forms) }
 {
     if !are_weights_for(bank, weights) {

@@ -1,7 +1,6 @@
 //! The lines of a form series.
 
-ghost use Rattle.std.specs.Prelude.{◌≡◌, ◌≤◌, ◌++◌, length, OnOk, IfOk, string_bytes};
-ghost use Rattle.bank_tables.specs.Tables.{size};
+ghost use Rattle.std.specs.Prelude.{◌≡◌, ◌++◌, length, OnOk, IfOk, string_bytes};
 ghost use Rattle.series_check.specs.Cuts.{problem_of};
 ghost use Rattle.series_model.specs.Series.{forms_of};
 ghost use Rattle.form_lines.specs.Texts.{form_lines, series_tree_text, value_line, bound_line, series_text, no_series, no_series_within};
@@ -65,7 +64,8 @@ fn push_bound(alloc: Global, out: &mut Vec<u8>, bound: &Option<SeriesBound>) -> 
     push_tree(alloc, out, tree)
 }
 
-/// The lines of a series that was found: its value with the mark and the number of nodes, its forms, the tree, and the bound.
+/// The lines of a series that was found: its value with the mark and the number of nodes, its
+/// forms, the tree, and the bound.
 #[tactic(auto, unfolding(crate::specs::Texts::series_text))]
 pub(crate) fn series_text(
     alloc: Global,
@@ -101,7 +101,8 @@ pub fn no_series_text(alloc: Global, tree: &SeriesTree) -> Result<Vec<u8>, Memor
     Ok(text)
 }
 
-/// The line where no series was found within so many nodes: the tree spends them. The only error is lack of memory.
+/// The line where no series was found within so many nodes: the tree spends them. The only error is
+/// lack of memory.
 #[tactic(auto, unfolding(crate::specs::Texts::no_series_within))]
 pub fn none_found_text(alloc: Global, budget: u32, tree: &SeriesTree) -> Result<Vec<u8>, Memory>
     ensures { IfOk result (λ text. text.items ≡ no_series_within budget tree.now) }

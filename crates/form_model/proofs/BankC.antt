@@ -1,4 +1,5 @@
--- Six items, three of them one passage that is taken whole or not at all: a bank, a plan, and a form of it.
+-- Six items, three of them one passage that is taken whole or not at all: a bank, a plan, and a
+-- form of it.
 use Rattle.std.proofs.Common.{◌≡◌, ℕ, [], ◌∷◌, pos, negsuc, None, refl}
 use Rattle.std.specs.Prelude.{replicate}
 use Rattle.bank_tables.specs.Tables.{Tables, Item}

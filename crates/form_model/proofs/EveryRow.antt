@@ -1,4 +1,5 @@
--- A bank with stimuli and a quantity, under a plan with a row of each kind: what holds and what fails, on each side.
+-- A bank with stimuli and a quantity, under a plan with a row of each kind: what holds and what
+-- fails, on each side.
 use Rattle.std.proofs.Common.{◌≡◌, ℕ, zero, suc, ◌<◌, inl, inr, Bool, true, false, List, [], ◌∷◌, pos, negsuc, None, Some, refl, sym, ◌∙◌, arith}
 use Rattle.std.specs.Prelude.{replicate}
 use Rattle.std.proofs.Math.Dec.{lit≤}
@@ -119,7 +120,8 @@ breach_row = (
     before zero w = row_is bank_r plan_r (these (1 ∷ 2 ∷ 5 ∷ [])) 0 refl
     before (suc q) w = absurd (omega arith)
 
--- a plan without rows leaves the bounds of the stimuli: item 0 alone of stimulus 1 is the first breach
+-- a plan without rows leaves the bounds of the stimuli: item 0 alone of stimulus 1 is the first
+-- breach
 unfoldable pub plan_bounds : Plan
 unfolding plan_r
 plan_bounds = record plan_r { rows = [] }

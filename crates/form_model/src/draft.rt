@@ -24,7 +24,8 @@ pub struct Draft {
     pub rate: Rate,
     /// The key of the eligibility draw (ChaCha20, RFC 8439).
     pub key: [u8; 32],
-    /// The grid points at which a new band of abilities begins, in rising order; none where there is one band.
+    /// The grid points at which a new band of abilities begins, in rising order; none where there
+    /// is one band.
     pub bands: List<u8>,
     /// Nodes of a proof tree for a step, at most.
     pub budget: u32,

@@ -2,7 +2,8 @@
 
 use bank_tables::ItemSet;
 
-/// A constraint on the items and stimuli of a form (van der Linden, Linear Models for Optimal Test Design, 2005).
+/// A constraint on the items and stimuli of a form (van der Linden, Linear Models for Optimal Test
+/// Design, 2005).
 #[derive(Clone, Copy, Debug, PartialEq, Eq)]
 pub enum Row {
     /// Categorical: the number of items of a set lies between the bounds.

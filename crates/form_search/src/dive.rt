@@ -1,8 +1,8 @@
-//! A dive for a form: what is taken most in part is taken or left as a whole, until nothing is taken in part.
+//! A dive for a form: what is taken most in part is taken or left as a whole, until nothing is
+//! taken in part.
 
 ghost use Rattle.form_model.specs.Validity.{IsWellMade};
 ghost use Rattle.constraint_model.specs.Views.{problem_of};
-ghost use Rattle.lagrange_bound.specs.Cuts.{IsCut};
 
 use crate::incumbent::Incumbent;
 use crate::table::Table;

@@ -20,7 +20,8 @@ pub fn after_swap(items: &ItemSet, swap: Swap) -> ItemSet {
     }
 }
 
-/// The exchange that betters a form most, with one that may leave it; `least` is what a better one has to gain at least.
+/// The exchange that betters a form most, with one that may leave it; `least` is what a better one
+/// has to gain at least.
 fn best_for(
     table: &Table,
     tally: &Tally,

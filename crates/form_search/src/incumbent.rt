@@ -24,7 +24,8 @@ impl Incumbent {
         }
     }
 
-    /// The greatest bound at which no form is better; -1 without a form, where a ray's bound has to be below 0.
+    /// The greatest bound at which no form is better; -1 without a form, where a ray's bound has to
+    /// be below 0.
     pub fn top(&self) -> i64 {
         match self.form {
             Some(_) => {
@@ -61,7 +62,8 @@ impl Incumbent {
         }
     }
 
-    /// Takes a set of items if it is a better form, and then exchanges items until no exchange of one betters it.
+    /// Takes a set of items if it is a better form, and then exchanges items until no exchange of
+    /// one betters it.
     pub fn offer(&mut self, problem: &Problem, table: &Table, items: &ItemSet)
         requires { IsWellMade (problem_of problem.now) }
     {

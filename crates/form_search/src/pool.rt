@@ -34,7 +34,8 @@ pub fn wanted(table: &Table, cut: &Cut) -> u32 {
     table.length.saturating_sub(cut.taken.count())
 }
 
-/// Whether a vector closes the path: no form there is better than the incumbent, or, by a ray, there is none.
+/// Whether a vector closes the path: no form there is better than the incumbent, or, by a ray,
+/// there is none.
 fn closes(priced: &Priced, table: &Table, incumbent: &Incumbent, cut: &Cut) -> bool {
     if !priced.ray && incumbent.form.is_none() {
         return false;
@@ -101,7 +102,8 @@ impl Pool {
         }
     }
 
-    /// The leaf of a vector that closes the path: the one that closed last is tried first, then the newest.
+    /// The leaf of a vector that closes the path: the one that closed last is tried first, then the
+    /// newest.
     pub fn closing(&mut self, table: &Table, incumbent: &Incumbent, cut: &Cut) -> Option<Node> {
         if let Some(leaf) = self.leaf_at(table, incumbent, cut, self.last) {
             return Some(leaf);

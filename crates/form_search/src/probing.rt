@@ -1,5 +1,5 @@
-//! Strong branching: the branches that seem best are tried by some steps on both sides (Applegate, Bixby, Chvátal and Cook,
-//! Finding Cuts in the TSP, 1995).
+//! Strong branching: the branches that seem best are tried by some steps on both sides (Applegate,
+//! Bixby, Chvátal and Cook, Finding Cuts in the TSP, 1995).
 
 ghost use Rattle.form_model.specs.Validity.{IsWellMade};
 ghost use Rattle.constraint_model.specs.Views.{problem_of};
@@ -22,8 +22,8 @@ use std::alloc::Global;
 /// How much the side that gains least counts against the other.
 const LEAST_COUNTS: i64 = 6;
 
-/// The vector that the steps on a side of a branch begin with, and its bound there: the greatest number where no steps were
-/// made there, the least where none are needed.
+/// The vector that the steps on a side of a branch begin with, and its bound there: the greatest
+/// number where no steps were made there, the least where none are needed.
 #[derive(Drop)]
 pub struct Hand {
     pub vector: Vector,
@@ -134,7 +134,8 @@ fn probe_of(
     }))
 }
 
-/// The branch that brings the bound down most, of those that seem best; none is tried once both sides of one close.
+/// The branch that brings the bound down most, of those that seem best; none is tried once both
+/// sides of one close.
 pub fn best_probed(
     alloc: Global,
     problem: &Problem,

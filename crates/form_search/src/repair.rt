@@ -16,8 +16,8 @@ fn weight_at(weights: &[i64], item: u16) -> i64 {
     weights.get(item as usize).copied().unwrap_or(0)
 }
 
-/// A free item outside the set of the greatest weight, of those that open no stimulus and fill none beyond its bound where
-/// `fits` is set.
+/// A free item outside the set of the greatest weight, of those that open no stimulus and fill none
+/// beyond its bound where `fits` is set.
 fn next_best(
     table: &Table,
     tally: &Tally,
@@ -65,7 +65,8 @@ struct Found {
     loss: i64,
 }
 
-/// Whether the first of two swaps is the better one, or lowers the violation where there is no other.
+/// Whether the first of two swaps is the better one, or lowers the violation where there is no
+/// other.
 fn is_better(found: &Found, best: &Option<Found>) -> bool {
     match best {
         Some(old) => {
@@ -120,8 +121,8 @@ fn lowering(table: &Table, weights: &[i64], items: &ItemSet) -> Option<Found> {
     best
 }
 
-/// The set begun, filled with items of the greatest weight, and with swaps that lower how far it is from the bounds:
-/// perhaps a form.
+/// The set begun, filled with items of the greatest weight, and with swaps that lower how far it is
+/// from the bounds: perhaps a form.
 pub fn nearby_form(
     alloc: Global,
     table: &Table,

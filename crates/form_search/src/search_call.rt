@@ -42,8 +42,8 @@ pub struct Searched {
     pub tree: Option<Tree>,
 }
 
-/// The better of the start and the hint, where they are forms; else a form near to the hint, if one is found. No item is exchanged
-/// yet, since the start is often the best form still.
+/// The better of the start and the hint, where they are forms; else a form near to the hint, if one
+/// is found. No item is exchanged yet, since the start is often the best form still.
 fn known(
     alloc: Global,
     problem: &Problem,
@@ -114,8 +114,8 @@ fn tree_by_exchanges(
     }
 }
 
-/// Sweeps until one is whole, and no better form was met while it grew large. None where a whole one has spent the budget, or
-/// no sweep is so.
+/// Sweeps until one is whole, and no better form was met while it grew large. None where a whole
+/// one has spent the budget, or no sweep is so.
 fn first_sweeps(
     alloc: Global,
     problem: &Problem,
@@ -138,7 +138,8 @@ fn first_sweeps(
     Ok(None)
 }
 
-/// The tree of the first sweeps, if the budget is not spent. Else one more sweep tries more branches at each path.
+/// The tree of the first sweeps, if the budget is not spent. Else one more sweep tries more
+/// branches at each path.
 fn sweeps(
     alloc: Global,
     problem: &Problem,
@@ -185,8 +186,8 @@ fn tree_of_warm(
     }
 }
 
-/// The tree where steps at the root begin the search: one node if they close it; else that of exchanges, where these may be
-/// made, or of sweeps by steps.
+/// The tree where steps at the root begin the search: one node if they close it; else that of
+/// exchanges, where these may be made, or of sweeps by steps.
 fn tree_by_steps(
     alloc: Global,
     problem: &Problem,
@@ -263,9 +264,10 @@ fn tree_of_search(
     )
 }
 
-/// Looks for a form of the problem, and for a tree within a budget of nodes, which is odd and at most 4,095, that shows it
-/// best, or that no set is a form, or that spends the budget; the hint may be a form. The tree is to be tested. Where the
-/// warm vector, if there is one, closes the root, the tree is one node.
+/// Looks for a form of the problem, and for a tree within a budget of nodes, which is odd and at
+/// most 4,095, that shows it best, or that no set is a form, or that spends the budget; the hint
+/// may be a form. The tree is to be tested. Where the warm vector, if there is one, closes the
+/// root, the tree is one node.
 pub fn search(
     alloc: Global,
     problem: &Problem,

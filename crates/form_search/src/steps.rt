@@ -11,8 +11,8 @@ use multiplier_steps::Ascent;
 use proof_tree::{Memory, Vector};
 use std::alloc::Global;
 
-/// The result of steps on a path: the best vector, for each item and stimulus its share, the items chosen last, and the
-/// vector's bound as the steps computed it.
+/// The result of steps on a path: the best vector, for each item and stimulus its share, the items
+/// chosen last, and the vector's bound as the steps computed it.
 #[derive(Drop)]
 pub struct Stepped {
     pub vector: Vector,

@@ -93,7 +93,8 @@ impl Sweep {
         }
     }
 
-    /// Steps at a path, fewer where there is no room for a vector, or where its branch was tried or it is deep.
+    /// Steps at a path, fewer where there is no room for a vector, or where its branch was tried or
+    /// it is deep.
     fn steps(
         &self,
         alloc: Global,
@@ -118,7 +119,8 @@ impl Sweep {
         climb(alloc, problem, &place.cut, &from.vector, aim)
     }
 
-    /// The leaf of the vector that a path begins with, if that closes it by the steps that tried its branch.
+    /// The leaf of the vector that a path begins with, if that closes it by the steps that tried
+    /// its branch.
     fn closed_before(
         &mut self,
         alloc: Global,
@@ -273,7 +275,8 @@ impl Sweep {
         self.node_after_steps(alloc, problem, table, incumbent, place)
     }
 
-    /// The node at a path: the leaf of the lowest row that is impossible by counting, where there is one.
+    /// The node at a path: the leaf of the lowest row that is impossible by counting, where there
+    /// is one.
     fn node_at(
         &mut self,
         alloc: Global,
@@ -294,13 +297,15 @@ impl Sweep {
         self.possible_node(alloc, problem, table, incumbent, at_root, place)
     }
 
-    /// Whether a sweep that begins anew would be smaller: a better form was met, and there are 32, 64, 128, .. nodes.
+    /// Whether a sweep that begins anew would be smaller: a better form was met, and there are 32,
+    /// 64, 128, .. nodes.
     fn is_stale(&self, incumbent: &Incumbent) -> bool {
         let count = self.nodes.len();
         count >= 32 && count.is_power_of_two() && incumbent.objective > self.begun
     }
 
-    /// Whether a better form was met while it grew to many nodes: a sweep that begins anew would be smaller.
+    /// Whether a better form was met while it grew to many nodes: a sweep that begins anew would be
+    /// smaller.
     pub fn is_late(&self, incumbent: &Incumbent) -> bool {
         self.nodes.len() > 48 && incumbent.objective > self.begun
     }

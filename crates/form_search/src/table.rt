@@ -25,8 +25,8 @@ pub struct RowBounds {
     pub of_stimuli: bool,
 }
 
-/// An item: its information at the estimate, its stimulus (0 for none), whether it was given, whether it may be taken or
-/// left, and where what it adds to rows begins and ends.
+/// An item: its information at the estimate, its stimulus (0 for none), whether it was given,
+/// whether it may be taken or left, and where what it adds to rows begins and ends.
 #[derive(Clone, Copy)]
 pub struct TableItem {
     pub info: u32,
@@ -205,15 +205,16 @@ impl Table {
         (free, grouped)
     }
 
-    /// Whether there are many stimuli, and at least two fifths of the items that may be taken or left are of stimuli. Exchanges,
-    /// by which items are linked to their stimuli, then lose more by the rounding of so many multipliers than they gain.
+    /// Whether there are many stimuli, and at least two fifths of the items that may be taken or
+    /// left are of stimuli. Exchanges, by which items are linked to their stimuli, then lose more
+    /// by the rounding of so many multipliers than they gain.
     pub fn is_of_passages(&self) -> bool {
         let (free, grouped) = self.free_items();
         self.stimuli.len() > FEW_STIMULI && free.wrapping_mul(2) <= grouped.wrapping_mul(5)
     }
 
-    /// Whether some of the items that may be taken or left are of stimuli, and exchanges prove more with each node than steps
-    /// do.
+    /// Whether some of the items that may be taken or left are of stimuli, and exchanges prove more
+    /// with each node than steps do.
     pub fn has_links(&self) -> bool {
         self.free_items().1 > 0 && !self.is_of_passages()
     }

@@ -1,4 +1,5 @@
-//! The sum of a set of items on each row and stimulus, and the violation: how far these are from the bounds, in all.
+//! The sum of a set of items on each row and stimulus, and the violation: how far these are from
+//! the bounds, in all.
 
 use crate::table::{RowBounds, Table, TableItem, amount_in};
 use bank_tables::ItemSet;
@@ -112,7 +113,8 @@ impl Tally {
         }
     }
 
-    /// Whether a row or stimulus has too much in this set, or too little in the other, which has all that may come.
+    /// Whether a row or stimulus has too much in this set, or too little in the other, which has
+    /// all that may come.
     pub fn rules_out(&self, table: &Table, all: &Tally, cut: &Cut) -> bool {
         let chosen = cut.chosen.count() as i64;
         let usable = chosen.wrapping_add(cut.opened.count() as i64);
@@ -224,8 +226,8 @@ impl Tally {
     }
 }
 
-/// Whether a row is impossible by counting on a path. By the table the answer comes sooner than by `impossible`, which names
-/// the row.
+/// Whether a row is impossible by counting on a path. By the table the answer comes sooner than by
+/// `impossible`, which names the row.
 pub fn is_ruled_out(table: &Table, cut: &Cut) -> bool {
     let taken = cut.taken.count();
     if taken > table.length || taken.saturating_add(cut.free.count()) < table.length {

@@ -1,4 +1,5 @@
-//! A sweep by exchanges: a tree made depth first, where each path begins with the vertex that its branch led to.
+//! A sweep by exchanges: a tree made depth first, where each path begins with the vertex that its
+//! branch led to.
 
 ghost use Rattle.form_model.specs.Validity.{IsWellMade};
 ghost use Rattle.constraint_model.specs.Views.{problem_of};
@@ -49,7 +50,8 @@ pub struct VertexSweep {
     pub is_whole: bool,
 }
 
-/// Whether there is no form, or the best is so far below the bound that a better one is worth a search.
+/// Whether there is no form, or the best is so far below the bound that a better one is worth a
+/// search.
 fn is_far(vertex: &Vertex, incumbent: &Incumbent) -> bool {
     match incumbent.form {
         Some(_) => {
@@ -137,7 +139,8 @@ impl VertexSweep {
         }
     }
 
-    /// The leaf at a path that needs no exchanges. At the root no vector is there, and the empty one isn't tried.
+    /// The leaf at a path that needs no exchanges. At the root no vector is there, and the empty
+    /// one isn't tried.
     fn settled_at(
         &mut self,
         alloc: Global,
@@ -154,7 +157,8 @@ impl VertexSweep {
         settled(alloc, problem, table, &mut self.pool, incumbent, cut)
     }
 
-    /// The node at a path: the leaf of the lowest row that is impossible by counting, or another leaf, or a branch.
+    /// The node at a path: the leaf of the lowest row that is impossible by counting, or another
+    /// leaf, or a branch.
     fn node_at(
         &mut self,
         alloc: Global,
@@ -200,7 +204,8 @@ impl VertexSweep {
         })
     }
 
-    /// A sweep over the paths from the root on. It ends early where it has so many nodes and met a better form.
+    /// A sweep over the paths from the root on. It ends early where it has so many nodes and met a
+    /// better form.
     pub fn over(
         alloc: Global,
         problem: &Problem,
@@ -282,7 +287,8 @@ impl VertexSweep {
     }
 }
 
-/// Sweeps from the vertex of the root, until one is whole; None where that one has spent its branches, or none is.
+/// Sweeps from the vertex of the root, until one is whole; None where that one has spent its
+/// branches, or none is.
 pub fn sweeps_by_exchanges(
     alloc: Global,
     problem: &Problem,
@@ -308,7 +314,8 @@ pub fn sweeps_by_exchanges(
     )
 }
 
-/// Sweeps until one is whole; each may have twice as many nodes before it begins anew as the one before.
+/// Sweeps until one is whole; each may have twice as many nodes before it begins anew as the one
+/// before.
 fn vertex_sweeps(
     alloc: Global,
     problem: &Problem,

@@ -46,7 +46,8 @@ pub fn sets_of(cut: &Cut) -> PathSets {
     }
 }
 
-/// The greatest bound of a vertex at which no form is better than the incumbent; the least number without one.
+/// The greatest bound of a vertex at which no form is better than the incumbent; the least number
+/// without one.
 pub fn target_of(incumbent: &Incumbent) -> i64 {
     match incumbent.form {
         Some(_) => incumbent.top().wrapping_mul(256),
@@ -87,8 +88,8 @@ impl Solver {
         pool.closed_by(alloc, table, incumbent, cut, vector, false)
     }
 
-    /// The leaf of the vector of a vertex whose bound closes the path; where the rounding to whole multipliers lost that, of
-    /// some steps from there.
+    /// The leaf of the vector of a vertex whose bound closes the path; where the rounding to whole
+    /// multipliers lost that, of some steps from there.
     fn leaf_near(
         &mut self,
         alloc: Global,
@@ -115,7 +116,8 @@ impl Solver {
         pool.closed_by(alloc, table, incumbent, cut, near.vector, false)
     }
 
-    /// The leaf of a vertex of a bound that closes the path; where rounding lost it, of the best vertex.
+    /// The leaf of a vertex of a bound that closes the path; where rounding lost it, of the best
+    /// vertex.
     fn leaf_at_target(
         &mut self,
         alloc: Global,
@@ -188,7 +190,8 @@ impl Solver {
         Ok(None)
     }
 
-    /// The leaf of a ray: of a Bound where a form is known and the multipliers are great enough, else of a Ray.
+    /// The leaf of a ray: of a Bound where a form is known and the multipliers are great enough,
+    /// else of a Ray.
     fn leaf_by_ray(
         &mut self,
         alloc: Global,

@@ -21,8 +21,8 @@ fn prices_of(alloc: Global, table: &Table, vector: &Vector) -> Result<Vec<i64>, 
     Ok(prices)
 }
 
-/// The reduced weight of an item: 256 times its information, or 0 for a ray, what it adds to each row times the row's price,
-/// and the price of its stimulus.
+/// The reduced weight of an item: 256 times its information, or 0 for a ray, what it adds to each
+/// row times the row's price, and the price of its stimulus.
 fn weight_of(table: &Table, prices: &[i64], entry: &TableItem, ray: bool) -> i64 {
     let mut weight = if ray {
         0
@@ -90,7 +90,8 @@ fn counted_price(table: &Table, vector: &Vector) -> i64 {
     sum
 }
 
-/// The reduced weight of each stimulus: the price of its bounds, and of each row that counts stimuli.
+/// The reduced weight of each stimulus: the price of its bounds, and of each row that counts
+/// stimuli.
 pub fn stimulus_weights(alloc: Global, table: &Table, vector: &Vector) -> Result<Vec<i64>, Memory> {
     let counted = counted_price(table, vector);
     let mut weights = Vec::from_elem(alloc, counted, table.stimuli.len())?;
@@ -105,7 +106,8 @@ pub fn stimulus_weights(alloc: Global, table: &Table, vector: &Vector) -> Result
     Ok(weights)
 }
 
-/// The cap: the multiplier of its low side less that of its high side, where the vector names one of them.
+/// The cap: the multiplier of its low side less that of its high side, where the vector names one
+/// of them.
 pub fn cap_of(vector: &Vector) -> Option<i64> {
     let mut cap = None;
     for pair in vector.pairs() {

@@ -19,7 +19,8 @@ use series_search::{Kinds, Searched, search};
 use series_tree::{Memory, SeriesTree};
 use std::alloc::Global;
 
-/// An outcome, the tree that shows it, and, beside a series that is not proved best, a bound of all series, if one was shown.
+/// An outcome, the tree that shows it, and, beside a series that is not proved best, a bound of all
+/// series, if one was shown.
 #[derive(Debug, Drop)]
 pub struct AssembledSeries {
     pub outcome: SeriesOutcome,
@@ -38,7 +39,8 @@ fn is_decided(outcome: &SeriesOutcome) -> bool
     }
 }
 
-/// Whether the budget is enough for a branch on each item in each form, so that the fallback search decides.
+/// Whether the budget is enough for a branch on each item in each form, so that the fallback search
+/// decides.
 fn is_enough(setting: &Setting, budget: u16) -> bool
     requires problem { IsSeriesProblem (problem_of setting.now) }
     requires budget { IsBudget budget }
@@ -48,8 +50,8 @@ fn is_enough(setting: &Setting, budget: u16) -> bool
     branches < 12 && 2u32.pow(branches + 1) <= budget as u32 + 1
 }
 
-/// What a search gave, if it passes every test and either decides or the budget is too small for a sure decision; else what the
-/// fallback search gives.
+/// What a search gave, if it passes every test and either decides or the budget is too small for a
+/// sure decision; else what the fallback search gives.
 fn tested(
     alloc: Global,
     setting: &Setting,
@@ -73,7 +75,8 @@ fn tested(
     search_fallback(alloc, setting, budget)
 }
 
-/// A search, its outcome with the forms in order, and the bound where the series is not proved best.
+/// A search, its outcome with the forms in order, and the bound where the series is not proved
+/// best.
 fn make(alloc: Global, setting: &Setting, budget: u16) -> Result<AssembledSeries, Memory>
     requires problem { IsSeriesProblem (problem_of setting.now) }
     requires budget { IsBudget budget }
@@ -102,8 +105,9 @@ fn make(alloc: Global, setting: &Setting, budget: u16) -> Result<AssembledSeries
     })
 }
 
-/// Assembles a series of so many forms of the plan, 1 to 4, within a budget of nodes, and the tree that shows it. `weights` has the
-/// weight of each grid point, at most 1,000, and one is above 0. The only error is lack of memory.
+/// Assembles a series of so many forms of the plan, 1 to 4, within a budget of nodes, and the tree
+/// that shows it. `weights` has the weight of each grid point, at most 1,000, and one is above 0.
+/// The only error is lack of memory.
 pub fn assemble_series(
     alloc: Global,
     bank: &Bank,
@@ -115,7 +119,8 @@ pub fn assemble_series(
     requires problem { IsSeriesProblem
         (record { bank = bank.now; plan = spec.now; weights = weights.now; forms = forms }) }
     requires budget { IsBudget budget }
-    // The checker's verdict on the tree is that of the outcome; undecided, the tree spends the budget.
+    // The checker's verdict on the tree is that of the outcome; undecided, the tree spends the
+    // budget.
     ensures shown { IfOk result (λ s. IsShown
         (record { bank = bank.now; plan = spec.now; weights = weights.now; forms = forms })
         s.tree budget s.outcome) }
@@ -127,7 +132,8 @@ pub fn assemble_series(
     ensures order { IfOk result (λ s. IsInOrder
         (record { bank = bank.now; plan = spec.now; weights = weights.now; forms = forms })
         s.outcome) }
-    // Beside a series that is not proved best, and nowhere else, there may be a number that the value of no series exceeds.
+    // Beside a series that is not proved best, and nowhere else, there may be a number that the
+    // value of no series exceeds.
     ensures bound { IfOk result (λ s. IsBoundOf
         (record { bank = bank.now; plan = spec.now; weights = weights.now; forms = forms })
         s.outcome s.bound) }

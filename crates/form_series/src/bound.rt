@@ -39,7 +39,8 @@ fn accepted(setting: &Setting, forms: &[ItemSet], bound: Bounded) -> Option<Seri
     }
 }
 
-/// The bound that a search gives, where the series is not proved best and the checker accepts the bound.
+/// The bound that a search gives, where the series is not proved best and the checker accepts the
+/// bound.
 pub(crate) fn bound_shown(
     setting: &Setting,
     outcome: &SeriesOutcome,

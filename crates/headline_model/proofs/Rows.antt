@@ -1,4 +1,5 @@
--- The headline's definitions on the worked histories of bank A: seats, ends, counts, and entries that may not follow.
+-- The headline's definitions on the worked histories of bank A: seats, ends, counts, and entries
+-- that may not follow.
 use Rattle.std.proofs.Common.{◌≡◌, ℕ, false, true, [], ◌∷◌, ◌++◌, None, refl, arith}
 use Rattle.bank_tables.specs.Items.{has}
 use Rattle.form_model.specs.Ability.{mode_of, greatest_at}

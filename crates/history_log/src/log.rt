@@ -5,7 +5,8 @@ ghost use Rattle.std.specs.Borrow.{ftrue};
 
 use std::marker::{Model, PhantomData};
 
-/// A list that only contracts read, as `items`. It has no bytes, and its functions do nothing at run time.
+/// A list that only contracts read, as `items`. It has no bytes, and its functions do nothing at
+/// run time.
 #[derive(Drop)]
 pub struct Log<T> {
     of: PhantomData<T>,

@@ -1,5 +1,5 @@
--- Three items and two bands: for the third session eligibility is set aside in the first band, and at the next step, in the
--- second band, again.
+-- Three items and two bands: for the third session eligibility is set aside in the first band, and
+-- at the next step, in the second band, again.
 use Rattle.std.proofs.Common.{◌≡◌, ℕ, zero, suc, inl, inr, Bool, false, true, ◌&&◌, List, [], ◌∷◌, ◌++◌, pos, negsuc, None, Some, refl, sym, ap, ◌∙◌, arith}
 use Rattle.std.specs.Prelude.{nat_lt}
 use Rattle.std.proofs.Math.Dec.{lit≤}
@@ -54,7 +54,8 @@ unfoldable pub plan_two : Plan
 unfolding plan_of_rows
 plan_two = record (plan_of_rows []) { length = 2; prior = pos 0 ∷ negsuc 0 ∷ []; rate = record { num = 1; den = 65535 }; bands = 1 ∷ [] }
 
--- ---- three sessions, whose second item is served in the second band: items 0 and 1, items 1 and 2, items 0 and 1
+-- ---- three sessions, whose second item is served in the second band: items 0 and 1, items 1 and
+-- 2, items 0 and 1
 unfoldable two_sessions : List Entry
 two_sessions =
     Started 0 70 (two_bands (one_word 7) (one_word 7)) None

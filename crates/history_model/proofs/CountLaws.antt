@@ -110,7 +110,8 @@ not_over plan H s open' few there =
     let full : nat_le plan.length (length (step_answers H s)) ≡ false = elim (either (nat_le plan.length (length (step_answers H s)))) [ inl is ↦ absurd (let w = leb-true _ _ is in omega arith) | inr not ↦ not ] in
     over_is plan H s there ∙ (ap (λ (b : Bool). b || nat_le plan.length (length (step_answers H s))) open' ∙ full)
 
--- ---- the session of the entry: not over before, and over after exactly where the entry finishes it
+-- ---- the session of the entry: not over before, and over after exactly where the entry finishes
+-- it
 goes_on_is_not_over : (o : Option Place) (at : Place) → o ≡ Some at → GoesOn at → is_over o ≡ false
 goes_on_is_not_over o (Pending step) e goes = ap is_over e
 goes_on_is_not_over o (Waiting step item proved) e goes = ap is_over e

@@ -1,4 +1,5 @@
--- The draw, by computing: the inequality at its edge, ChaCha20's words of the key of zeros, and two draws.
+-- The draw, by computing: the inequality at its edge, ChaCha20's words of the key of zeros, and two
+-- draws.
 use Rattle.std.proofs.Common.{◌≡◌, ℕ, false, true, List, [], refl}
 use Rattle.std.specs.Prelude.{replicate}
 use Rattle.rand_core.specs.Steps.{u32_at}
@@ -11,7 +12,8 @@ use Rattle.history_model.specs.Draws.{draw_word, is_admitted, drawn, draw}
 edge : (is_admitted 1073741823 (record { num = 1; den = 4 }) (record { alpha = 4; eps = 4 }) ≡ true) × (is_admitted 1073741824 (record { num = 1; den = 4 }) (record { alpha = 4; eps = 4 }) ≡ false)
 edge = (refl, refl)
 
--- an item that was never shown is admitted at any word, and so is one at rate 1 / 1 with equal counts
+-- an item that was never shown is admitted at any word, and so is one at rate 1 / 1 with equal
+-- counts
 always : (is_admitted 4294967295 (record { num = 1; den = 4 }) (record { alpha = 0; eps = 0 }) ≡ true) × (is_admitted 4294967295 (record { num = 1; den = 1 }) (record { alpha = 3; eps = 3 }) ≡ true)
 always = (refl, refl)
 
@@ -32,8 +34,8 @@ words_1 : (draw_word zeros 1 0 0 ≡ 0xd6df3fef) × (draw_word zeros 0 0 16 ≡ 
 unfolding zeros draw_word u32_at quarter_round column_round diagonal_round double_rounds block_word
 words_1 = (refl, refl, refl)
 
--- words of the second band and of the eighth, at the places from 512 and from 3,584 on; a separate program in Python,
--- written from RFC 8439, computed them, and OpenSSL's chacha20 gives the same
+-- words of the second band and of the eighth, at the places from 512 and from 3,584 on; a separate
+-- program in Python, written from RFC 8439, computed them, and OpenSSL's chacha20 gives the same
 words_of_bands : (draw_word zeros 0 1 0 ≡ 0xa3df42f9) × (draw_word zeros 0 1 1 ≡ 0x391ab472) × (draw_word zeros 0 1 2 ≡ 0xf2bbab0e) × (draw_word zeros 0 7 0 ≡ 0x41f2aea2) × (draw_word zeros 0 7 1 ≡ 0x0de6ec85) × (draw_word zeros 0 7 511 ≡ 0x98833045)
 unfolding zeros draw_word u32_at quarter_round column_round diagonal_round double_rounds block_word
 words_of_bands = (refl, refl, refl, refl, refl, refl)
@@ -56,7 +58,8 @@ drawn_half_1 : (drawn zeros (record { num = 1; den = 2 }) 0 1 6 half 0 ≡ false
 unfolding half zeros draw_word u32_at quarter_round column_round diagonal_round double_rounds block_word
 drawn_half_1 = (refl, refl, refl)
 
--- the first draw has all items of the bank, and none beyond; in a band that the plan hasn't it has none
+-- the first draw has all items of the bank, and none beyond; in a band that the plan hasn't it has
+-- none
 first_draw : (draw bank_a plan_a [] 0 0 0 ≡ true) × (draw bank_a plan_a [] 0 0 5 ≡ true) × (draw bank_a plan_a [] 0 0 6 ≡ false) × (draw bank_a plan_a [] 0 1 0 ≡ false)
 unfolding bank_a item_a plan_of_rows plan_a
 first_draw = (refl, refl, refl, refl)

@@ -63,7 +63,8 @@ places_three : (place plan_a three 0 ≡ Some Complete) × (place plan_a three 1
 unfolding plan_of_rows plan_a complete_0 three
 places_three = (refl, refl, refl, refl, refl)
 
--- item 5 wasn't eligible for session 0, and was set aside in session 1; items 0 and 4 were shown in two and in one
+-- item 5 wasn't eligible for session 0, and was set aside in session 1; items 0 and 4 were shown in
+-- two and in one
 counts_three : (counts bank_a plan_a three 0 ≡ record { alpha = 2; eps = 2 }) × (counts bank_a plan_a three 4 ≡ record { alpha = 1; eps = 2 }) × (counts bank_a plan_a three 5 ≡ record { alpha = 0; eps = 1 })
 unfolding plan_of_rows plan_a complete_0 three has bank_a item_a sevens mode_of greatest_at
 counts_three = (refl, refl, refl)
@@ -72,7 +73,8 @@ seat_three : (is_aside_in (seat_of three 1) 0 ≡ true) × ((seat_of three 1).pr
 unfolding complete_0 three
 seat_three = (refl, refl, refl, refl, refl)
 
--- ---- the bar: items 0, 1 and 2 are of stimulus 1, items 3 and 4 of none, item 5 of stimulus 2; all but item 4 are eligible
+-- ---- the bar: items 0, 1 and 2 are of stimulus 1, items 3 and 4 of none, item 5 of stimulus 2;
+-- all but item 4 are eligible
 item_b : ℕ → Item
 item_b stimulus = record { stimulus = stimulus; categories = 2; quantities = []; info = 1 ∷ []; loglik = negsuc 0 ∷ negsuc 0 ∷ [] }
 

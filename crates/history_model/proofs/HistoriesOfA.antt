@@ -83,7 +83,8 @@ given_a : (problem_2.given 4 ≡ true) × (problem_2.given 1 ≡ false) × (prob
 unfolding problem_2 seat_2 bank_a item_a has plan_of_rows plan_a
 given_a = (refl, refl, refl, refl, refl, refl)
 
--- nothing counts before the end of the session, then items 1, 2 and 4 are shown, and all were eligible
+-- nothing counts before the end of the session, then items 1, 2 and 4 are shown, and all were
+-- eligible
 counts_before : (finished plan_a served_2 ≡ 0) × (counts bank_a plan_a served_2 2 ≡ record { alpha = 0; eps = 0 })
 unfolding plan_of_rows plan_a started_a served_a answered_a served_1 answered_1 served_2 has bank_a item_a sevens mode_of greatest_at
 counts_before = (refl, refl)
@@ -92,7 +93,8 @@ counts_behind : (finished plan_a answered_2 ≡ 1) × (counts bank_a plan_a answ
 unfolding plan_of_rows plan_a started_a served_a answered_a served_1 answered_1 served_2 answered_2 has bank_a item_a sevens mode_of greatest_at
 counts_behind = (refl, refl, refl, refl, refl, refl, refl, refl)
 
--- ---- two sessions: the second is closed while its first item waits for an answer, and that item counts as shown
+-- ---- two sessions: the second is closed while its first item waits for an answer, and that item
+-- counts as shown
 unfoldable pub two_a : List Entry
 two_a = Started 0 1 (one_band (one_word 63)) None ∷ Served 0 0 2 (one_word 14) true 1 ∷ Started 1 2 (one_band (one_word 63)) None ∷ Served 1 0 2 (one_word 14) true 1 ∷ Answered 0 0 1 ∷ Served 0 1 4 (one_word 22) true 1 ∷ []
 

@@ -1,5 +1,5 @@
--- Bank A with two bands, entry by entry: one session stays in the first band, the next moves to the second, and goes on there
--- or comes back.
+-- Bank A with two bands, entry by entry: one session stays in the first band, the next moves to the
+-- second, and goes on there or comes back.
 use Rattle.std.proofs.Common.{◌≡◌, ℕ, zero, suc, ◌+◌, ◌*◌, ◌<◌, inl, Bool, false, true, ◌&&◌, List, [], ◌∷◌, ◌++◌, pos, None, Some, refl, sym, ap, ◌∙◌, arith}
 use Rattle.std.specs.Prelude.{nat_lt}
 use Rattle.std.proofs.Math.Bool.{true≢false}
@@ -53,7 +53,8 @@ plan_rare = record plan_bands { rate = record { num = 1; den = 65535 } }
 abbrev pub two_bands : List ℕ → List ℕ → Bands
 two_bands first second = record { count = 2; sets = first ∷ second ∷ [] }
 
--- ---- session 0 gives response 0 to items 2, 1 and 3: the estimate stays at point 1, in the first band
+-- ---- session 0 gives response 0 to items 2, 1 and 3: the estimate stays at point 1, in the first
+-- band
 unfoldable stayed : List Entry
 stayed =
     Started 0 70 (two_bands (one_word 63) (one_word 63)) None
@@ -137,7 +138,8 @@ counts_in_all : (each_item (λ i. (counts bank_bands plan_rare closed i).alpha) 
 unfolding plan_rare plan_bands plan_of_rows plan_a stayed begun moved went_on closed has bank_bands item_a sevens mode_of greatest_at
 counts_in_all = (refl, refl)
 
--- ---- session 1 came back, and is closed while its third item, of the first band, waits for an answer
+-- ---- session 1 came back, and is closed while its third item, of the first band, waits for an
+-- answer
 unfoldable back_and_closed : List Entry
 unfolding came_back moved begun stayed
 back_and_closed = came_back ++ Served 1 2 0 (one_word 49) true 1 ∷ Closed 1 ∷ []
@@ -231,7 +233,8 @@ start_one_set : IsIllegal bank_bands plan_rare stayed (Started 1 71 (one_band (o
 unfolding stayed plan_rare plan_bands plan_of_rows plan_a
 start_one_set = (next_number, refl, other_number (λ e. absurd (omega (arith, e))))
 
--- ---- the third item in the second band: nothing is barred, and item 1 follows from the form of items 1, 4 and 5
+-- ---- the third item in the second band: nothing is barred, and item 1 follows from the form of
+-- items 1, 4 and 5
 mode_on : IsPosteriorMode bank_bands plan_rare.prior ((5, 1) ∷ (4, 1) ∷ []) 2
 unfolding bank_bands plan_rare plan_bands plan_a plan_of_rows item_a sevens
 mode_on = mode_is bank_bands plan_rare.prior ((5, 1) ∷ (4, 1) ∷ []) 2 refl
@@ -251,7 +254,8 @@ next_on : IsNext problem_on (has (one_word 50)) 1
 unfolding problem_on went_on moved begun stayed bank_bands item_a has
 next_on = next_is problem_on (has (one_word 50)) 1 (word_below 6 50 refl refl) refl
 
--- side 0, the lower one of the row on items 0 and 1, by 6 times 256 brings item 1 to the weight of item 3
+-- side 0, the lower one of the row on items 0 and 1, by 6 times 256 brings item 1 to the weight of
+-- item 3
 maximum_on : IsRelaxedMaximum problem_on (root problem_on) ((0, 1536) ∷ []) false (pos 4096)
 unfolding problem_on went_on moved begun stayed bank_bands item_a plan_rare plan_bands plan_of_rows plan_a has item_weight stimulus_weight rows_constant link_multiplier excess_of_items
 maximum_on = maximum_is problem_on (root problem_on) ((0, 1536) ∷ []) false (has (one_word 2)) (pos 2048) (pos 4096) (word_below 6 2 refl refl) refl refl
@@ -264,7 +268,8 @@ may_serve_on : MayFollow bank_bands plan_rare went_on (Served 1 2 1 (one_word 50
 unfolding one_bound
 may_serve_on = record { problem = problem_on; is_problem = is_problem_on; is_form = form_on; next = next_on; shows = record { has_tree = record { number = refl; spent = tt }; verdict = Optimal; has_verdict = optimal_on; asked = refl } }
 
--- ---- back in the first band items 1, 2 and 3 are barred, and item 0 follows from the form of items 0, 4 and 5
+-- ---- back in the first band items 1, 2 and 3 are barred, and item 0 follows from the form of
+-- items 0, 4 and 5
 mode_back : IsPosteriorMode bank_bands plan_rare.prior ((5, 1) ∷ (4, 0) ∷ []) 1
 unfolding bank_bands plan_rare plan_bands plan_a plan_of_rows item_a sevens
 mode_back = mode_is bank_bands plan_rare.prior ((5, 1) ∷ (4, 0) ∷ []) 1 refl

@@ -1,4 +1,5 @@
--- The form last served from stays a form of the session's problem while the estimate stays in its band.
+-- The form last served from stays a form of the session's problem while the estimate stays in its
+-- band.
 use Rattle.std.proofs.Common.{◌≡◌, ℕ, zero, suc, ◌+◌, Bool, true, false, cond, not, ◌&&◌, ◌||◌, ◌==◌, List, [], ◌∷◌, ◌++◌, length, take, get_or, Some, refl, sym, ap, ◌∙◌, subst, arith, nat_lt}
 use Rattle.std.specs.List.{zip}
 use Rattle.std.specs.Option.{option_map}
@@ -28,7 +29,8 @@ use Rattle.history_model.proofs.Ordered.{in_order}
 use Rattle.history_model.proofs.CountLaws.{answers_number, first_answers}
 use Rattle.history_model.proofs.Running.{along, once, one_more, shown_number, responses_number, the_seat_goes_on, pending_is_of_seat}
 
--- the form last served from is a form of the problem in the band of the step at which it was served, whatever the estimate
+-- the form last served from is a form of the problem in the band of the step at which it was
+-- served, whatever the estimate
 abbrev Keeps : Tables → Plan → ℕ → Seat → Type 0
 Keeps b plan s seat = (step theta : ℕ) (aside : Bool) (words : List ℕ) → length seat.shown ≡ step + 1 → seat.form ≡ Some words
     → Form (problem_barring b plan s seat theta aside (is_unavailable_in seat (band_at b plan seat step))) (has words)

@@ -1,4 +1,5 @@
--- What a session's list of items gives: none of them is shown, served or counted, and there is a form without them.
+-- What a session's list of items gives: none of them is shown, served or counted, and there is a
+-- form without them.
 use Rattle.std.proofs.Common.{◌≡◌, ℕ, zero, suc, ◌⊎◌, inl, inr, Bool, true, false, cond, not, ◌&&◌, ◌==◌, List, [], ◌∷◌, ◌++◌, slice_get, Option, Some, None, refl, sym, ap, ◌∙◌, subst, nat_lt}
 use Rattle.std.specs.List.{filter_map}
 use Rattle.std.specs.Option.{option_map, option_map_or}

@@ -1,9 +1,8 @@
--- What a request that names a booking is refused for, and what it shows of its session where it is not.
-use Rattle.std.proofs.Common.{◌≡◌, ℕ, suc, ◌+◌, ◌<◌, length, Bool, true, false, cond, not, ◌==◌, List, [], ◌∷◌, Contains, slice_get, filter_map, Option, Some, None, refl, sym, ap, ◌∙◌, subst, arith}
+-- What a request that names a booking is refused for, and what it shows of its session where it is
+-- not.
+use Rattle.std.proofs.Common.{◌≡◌, ℕ, suc, Bool, true, false, cond, not, ◌==◌, List, [], ◌∷◌, Contains, slice_get, filter_map, Option, Some, None, refl, ap, ◌∙◌, arith}
 use Rattle.std.specs.List.{cons_option}
 use Rattle.std.proofs.lemmas.Bool.{eqb-true}
-use Rattle.bank_tables.specs.Tables.{Tables}
-use Rattle.form_model.specs.Plan.{Plan}
 use Rattle.history_model.specs.declared.entry.Bands.{Bands}
 use Rattle.history_model.specs.declared.entry.Entry.{Entry}
 use Rattle.history_model.specs.declared.entry.Entry.TheVariants.{Started, SetAside, Served, Answered, Closed}

@@ -96,7 +96,8 @@ moves_on b plan s (e ∷ E) G run started =
     joined one two three keeps (inr (inr a)) (inl c) = inr (inr (keeps a))
     joined one two three keeps (inr (inr a)) (inr (inl c)) = inr (inr (keeps a))
 
--- a seat that differs in its flags alone has the same problem, if its flag in the band of the estimate is the same
+-- a seat that differs in its flags alone has the same problem, if its flag in the band of the
+-- estimate is the same
 flags_alone : (b : Tables) (plan : Plan) (s : ℕ) (seat : Seat) (flags : List Bool) (P : Problem) → IsSeatProblem b plan s seat P
     → (let other : Seat = record seat { aside = flags } in is_aside_in other (band_of plan P.theta) ≡ P.aside → IsSeatProblem b plan s other P)
 flags_alone b plan s seat flags P of_seat same = record { theta = theta; mode = of_seat.mode; is = of_seat.is ∙ ap with_flag (sym flag) }

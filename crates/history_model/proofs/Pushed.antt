@@ -155,7 +155,8 @@ no_lists (Served session step item form proved nodes ∷ H) s e = no_lists H s e
 no_lists (Answered session step response ∷ H) s e = no_lists H s e
 no_lists (Closed session ∷ H) s e = no_lists H s e
 
--- the seat goes on by the entry, if the session is started at most once, and before its items are served
+-- the seat goes on by the entry, if the session is started at most once, and before its items are
+-- served
 pub seat_goes_on : (H : List Entry) (e : Entry) (s : ℕ) → (starts_session s e ≡ true → (is_started H s ≡ false) × (servings H s ≡ [])) → seat_of (H ++ e ∷ []) s ≡ seat_with s (seat_of H s) e
 unfolding eligibles lists
 seat_goes_on H (Started session booking eligible without) s new = seat-push H (Started session booking eligible without) s ∙ by (session == s) new

@@ -84,7 +84,8 @@ answer_with_tree : IsIllegal bank_a plan_a served_a (Answered 0 0 0) (Some one_l
 unfolding started_a served_a plan_of_rows plan_a
 answer_with_tree = (λ e. cc, λ e. cc, refl)
 
--- ---- closing a session that isn't there, one that may be closed, one that is complete, one that is closed
+-- ---- closing a session that isn't there, one that may be closed, one that is complete, one that
+-- is closed
 close_5 : IsIllegal bank_a plan_a served_a (Closed 5) None (NoSession 1)
 unfolding started_a served_a plan_of_rows plan_a
 close_5 = (refl, refl)
@@ -141,7 +142,8 @@ serve_unproved : IsIllegal bank_a plan_a started_a (Served 0 0 2 (one_word 14) f
 unfolding one_leaf plan_of_rows plan_a
 serve_unproved = (problem_0, is_problem_0, form_0, next_0, λ tree. let e = tree.spent.nodes in omega arith, refl)
 
--- a tree that shows nothing: with the multiplier 4,096 the relaxed maximum is 8,960, and the leaf isn't closed
+-- a tree that shows nothing: with the multiplier 4,096 the relaxed maximum is 8,960, and the leaf
+-- isn't closed
 maximum_4096 : IsRelaxedMaximum problem_0 (root problem_0) ((3, 4096) ∷ []) false (pos 8960)
 unfolding problem_0 started_a bank_a item_a plan_of_rows plan_a has item_weight stimulus_weight rows_constant link_multiplier excess_of_items
 maximum_4096 = maximum_is problem_0 (root problem_0) ((3, 4096) ∷ []) false (has (one_word 11)) (pos 1280) (pos 8960) (word_below 6 11 refl refl) refl refl

@@ -1,5 +1,5 @@
--- The test on bank A as records with their proof trees: each may follow those before it, so the run is legal, and the items
--- shown in it meet the plan.
+-- The test on bank A as records with their proof trees: each may follow those before it, so the run
+-- is legal, and the items shown in it meet the plan.
 use Rattle.std.proofs.Common.{◌≡◌, ℕ, zero, suc, ◌+◌, ◌*◌, ◌<◌, inl, inr, Bool, true, false, not, ◌&&◌, List, [], ◌∷◌, ◌++◌, pos, None, Some, refl, sym, ap, ◌∙◌, subst, arith}
 use Rattle.std.specs.Prelude.{nat_lt}
 use Rattle.std.proofs.Math.Bool.{true≢false}

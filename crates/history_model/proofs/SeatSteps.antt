@@ -1,4 +1,5 @@
--- What each entry does to a seat: it stays one, and the form last served from stays a form of its problem.
+-- What each entry does to a seat: it stays one, and the form last served from stays a form of its
+-- problem.
 use Rattle.std.proofs.Common.{◌≡◌, ℕ, zero, suc, ◌+◌, ◌<◌, ◌⊎◌, inl, inr, Bool, true, false, not, ◌&&◌, ◌||◌, ◌==◌, List, [], ◌∷◌, ◌++◌, length, slice_get, Option, Some, None, refl, sym, ap, ◌∙◌, subst, arith, nat_lt, length-append}
 use Rattle.std.specs.List.{list_any}
 use Rattle.std.specs.Option.{option_map_or}
@@ -19,7 +20,8 @@ use Rattle.serving_model.proofs.Staying.{form_stays_aside}
 use Rattle.history_model.specs.Lists.{IsFormWithout}
 use Rattle.history_model.proofs.Standing.{before_end}
 
--- the seat is one, and its form is a form of its problem once eligibility is set aside, whatever the estimate
+-- the seat is one, and its form is a form of its problem once eligibility is set aside, whatever
+-- the estimate
 pub record Stands (b : Tables) (plan : Plan) (s : ℕ) (seat : Seat) : Type 0 where
   pub is_seat : IsSeat b plan seat
   pub keeps : (words : List ℕ) (theta : ℕ) → seat.form ≡ Some words → Form (problem_aside b plan s seat theta) (has words)

@@ -113,7 +113,8 @@ there_by true closed full n o p e = refl
 pub there : (plan : Plan) (H : List Entry) (s : ℕ) (p : Place) → place plan H s ≡ Some p → is_started H s ≡ true
 there plan H s p e = there_by (is_started H s) (is_closed H s) (nat_le plan.length (length (step_answers H s))) (length (step_answers H s)) (serving_at H s (length (step_answers H s))) p e
 
--- ---- where the k-th serving is that of step k, the serving of a step is found at the place of its number
+-- ---- where the k-th serving is that of step k, the serving of a step is found at the place of its
+-- number
 pub find_step : (xs : List Serving) (from k : ℕ) → ((j : ℕ) (x : Serving) → slice_get xs j ≡ Some x → x.step ≡ from + j) → find (λ (x : Serving). x.step == from + k) xs ≡ slice_get xs k
 find_step [] from k order = refl
 find_step (x ∷ xs) from zero order = ap (λ (found : Bool). cond found (Some x) (find (λ (y : Serving). y.step == from + 0) xs)) (eq-eqb x.step (from + 0) (order 0 x refl))

@@ -20,7 +20,8 @@ form_1 : Form problem_1 (these (1 ∷ 2 ∷ 4 ∷ []))
 unfolding problem_1 seat_1 bank_a item_a plan_of_rows plan_a has
 form_1 = form_is problem_1 (these (1 ∷ 2 ∷ 4 ∷ [])) (these_below 6 (1 ∷ 2 ∷ 4 ∷ []) refl) (these_below 6 (2 ∷ []) refl) refl
 
--- side 0, the lower one of the row on items 0 and 1, by 6 times 256 brings item 1 to the weight of item 3
+-- side 0, the lower one of the row on items 0 and 1, by 6 times 256 brings item 1 to the weight of
+-- item 3
 maximum_1 : IsRelaxedMaximum problem_1 (root problem_1) ((0, 1536) ∷ []) false (pos 3584)
 unfolding problem_1 seat_1 bank_a item_a plan_of_rows plan_a has item_weight stimulus_weight rows_constant link_multiplier excess_of_items
 maximum_1 = maximum_is problem_1 (root problem_1) ((0, 1536) ∷ []) false (these (1 ∷ 4 ∷ [])) (pos 2048) (pos 3584) (these_below 6 (1 ∷ 4 ∷ []) refl) refl refl

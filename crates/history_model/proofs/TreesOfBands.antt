@@ -11,7 +11,8 @@ use Rattle.form_model.proofs.BankA.{item_a, plan_of_rows, plan_a}
 use Rattle.certificate_model.proofs.StepsOfA.{one_count}
 use Rattle.serving_model.proofs.BandsOfA.{bank_bands, plan_bands, seat_5, not_aside, problem_5}
 
--- so two items are left for a test of three: there is no form, although there was one in the first band
+-- so two items are left for a test of three: there is no form, although there was one in the first
+-- band
 short_5 : is_impossible (problem_5 not_aside) (root (problem_5 not_aside)) 0 ≡ true
 unfolding problem_5 seat_5 bank_bands plan_bands plan_a plan_of_rows item_a has is_impossible
 short_5 = refl

@@ -26,8 +26,8 @@ not_on_chosen : IsSpent problem_1 branch_on_chosen 3 → ⊥
 unfolding branch_on_chosen problem_1 seat_s bank_s item_s
 not_on_chosen spent = true≢false (sym spent.unresolved.0.0.is_open)
 
--- ---- an Open leaf, or a branch, where the plain bound leaves no room above the start: on bank S the start is best,
--- and the plain bound is its objective
+-- ---- an Open leaf, or a branch, where the plain bound leaves no room above the start: on bank S
+-- the start is best, and the plain bound is its objective
 start_s : Form problem_1 (has (one_word 27))
 unfolding problem_1 seat_s bank_s item_s plan_s has
 start_s = form_is problem_1 (has (one_word 27)) (word_below 5 27 refl refl) (these_below 5 (0 ∷ []) refl) refl

@@ -1,5 +1,5 @@
--- Three items and two bands: no session counts in the second band, since none is served an item there, though two have an
--- estimate there at their end.
+-- Three items and two bands: no session counts in the second band, since none is served an item
+-- there, though two have an estimate there at their end.
 use Rattle.std.proofs.Common.{◌≡◌, ℕ, Bool, false, true, List, [], ◌∷◌, ◌++◌, Some, None, refl}
 use Rattle.rand_core.specs.Steps.{u32_at}
 use Rattle.rand_chacha.specs.Block.{quarter_round, column_round, diagonal_round, double_rounds, block_word}
@@ -18,7 +18,8 @@ use Rattle.history_model.specs.SessionProblems.{band_now, is_aside_now}
 use Rattle.history_model.proofs.HistoriesOfBands.{two_bands}
 use Rattle.history_model.proofs.AsideInBands.{bank_three, plan_two}
 
--- ---- session 0 is served items 0 and 1 in the first band; its last answer moves the estimate to the second
+-- ---- session 0 is served items 0 and 1 in the first band; its last answer moves the estimate to
+-- the second
 unfoldable one_session : List Entry
 one_session =
     Started 0 70 (two_bands (one_word 7) (one_word 7)) None
@@ -33,7 +34,8 @@ unfoldable two_sessions : List Entry
 unfolding one_session
 two_sessions = one_session ++ Started 1 71 (two_bands (one_word 4) (one_word 7)) None ∷ Closed 1 ∷ []
 
--- ---- session 2 has the same items: eligibility is set aside in the first band and, after item 0, in the second
+-- ---- session 2 has the same items: eligibility is set aside in the first band and, after item 0,
+-- in the second
 unfoldable set_aside : List Entry
 unfolding two_sessions one_session
 set_aside =

@@ -330,8 +330,8 @@ PlaceHasList =
     → Does b plan H (BeginWithout booking items) H2 (At session at fresh)
     → (holder H2 booking ≡ Some session) × IsTrue (has_list items (list_of H2 session))
 
--- an answer or a closing that names a booking, and is not refused, is of the session that was started for
--- this booking
+-- an answer or a closing that names a booking, and is not refused, is of the session that was
+-- started for this booking
 abbrev pub NamedHasBooking : Type 0
 NamedHasBooking = (b : Tables) (plan : Plan) (H : List Entry) (session booking : ℕ)
     → ((step response : ℕ)

@@ -27,7 +27,8 @@ refusal_of_new plan H (Some session) = None
 refusal_of_new plan H None =
     if nat_le plan.sessions (sessions H) then Some (SessionsFull (sessions H)) else None
 
--- the words of a set of items are a list for the bank: it has items, and no item that the bank hasn't
+-- the words of a set of items are a list for the bank: it has items, and no item that the bank
+-- hasn't
 abbrev pub is_list : Tables → List ℕ → Bool
 is_list b items = any_below 512 (has items)
     && not (any_below 512 (λ i. has items i && nat_le (size b) i))

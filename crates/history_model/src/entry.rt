@@ -20,8 +20,8 @@ pub struct Bands {
     pub sets: [ItemSet; 8],
 }
 
-/// The items that an examinee must not get, as those of earlier sittings. A list with no items is none: no session starts
-/// with it.
+/// The items that an examinee must not get, as those of earlier sittings. A list with no items is
+/// none: no session starts with it.
 #[derive(Clone, Copy, Debug, PartialEq, Eq)]
 pub struct Without {
     /// The items.
@@ -33,16 +33,16 @@ pub struct Without {
 /// One atomic step of an examination. Sessions and steps are counted from 0.
 #[derive(Clone, Copy, Debug, PartialEq, Eq)]
 pub enum Entry {
-    /// A session was started for a booking, with its draw of eligible items in each band, and the list of items that the
-    /// examinee must not get, if there is one.
+    /// A session was started for a booking, with its draw of eligible items in each band, and the
+    /// list of items that the examinee must not get, if there is one.
     Started {
         session: u32,
         booking: u64,
         eligible: Bands,
         without: Option<Without>,
     },
-    /// Eligibility was set aside for a session in the band of its estimate at a step; `nodes` is the size of the tree that
-    /// shows why.
+    /// Eligibility was set aside for a session in the band of its estimate at a step; `nodes` is
+    /// the size of the tree that shows why.
     SetAside {
         session: u32,
         step: u16,
@@ -50,7 +50,8 @@ pub enum Entry {
         cause: Cause,
         nodes: u16,
     },
-    /// An item was served from a form, which is proved best or not; `nodes` is the size of the tree that shows it.
+    /// An item was served from a form, which is proved best or not; `nodes` is the size of the tree
+    /// that shows it.
     Served {
         session: u32,
         step: u16,

@@ -7,21 +7,24 @@ use form_model::Breach;
 /// The first reason, in this order, that holds for the record's kind.
 #[derive(Clone, Copy, Debug, PartialEq, Eq)]
 pub enum Illegal {
-    /// The session to be started isn't the next one, or isn't below the plan's limit; the number of sessions.
+    /// The session to be started isn't the next one, or isn't below the plan's limit; the number of
+    /// sessions.
     NotNumber(u32),
     /// The booking has this session.
     Booked(u32),
-    /// The eligible sets aren't the draws: 0 where there isn't one for each band of the plan, else the lowest item at which
-    /// the set of some band and its draw differ.
+    /// The eligible sets aren't the draws: 0 where there isn't one for each band of the plan, else
+    /// the lowest item at which the set of some band and its draw differ.
     NotDrawn(u16),
-    /// The list of the items that the examinee must not get is empty, or has an item that the bank hasn't; the number of
-    /// items of the bank.
+    /// The list of the items that the examinee must not get is empty, or has an item that the bank
+    /// hasn't; the number of items of the bank.
     NoItem(u16),
-    /// The form of the list is no form of the whole problem with the items of the list barred; its first breach.
+    /// The form of the list is no form of the whole problem with the items of the list barred; its
+    /// first breach.
     NotWithout(Breach),
     /// There is no such session; the number of sessions.
     NoSession(u32),
-    /// The session doesn't wait for an item, or an item is served at another step than that of the session; its place.
+    /// The session doesn't wait for an item, or an item is served at another step than that of the
+    /// session; its place.
     NotPending(Place),
     /// Eligibility was set aside before in the band of the estimate.
     IsAside,

@@ -4,7 +4,8 @@ ghost use Rattle.history_model.specs.Ahead.{AheadStays, AnsweredThere};
 ghost use Rattle.history_model.specs.Lifting.{LiftedMayFollow};
 ghost use Rattle.history_model.specs.Laws.{MayIsLegal, BackedIsLegalRun, OneProblem, OneReason, NoReasonIfMay, EachIsLegal, SessionsAreNumbered, SessionsAreFew, FinishedAreFew, StepsAreInOrder, SeatBeforeStart, SeatGoesOn, SeatIsSeat, EligibleIsOfBank, OnlyBandsOfPlan, AsideIsOfEstimate, PlaceIsOfSeat, PendingIsOfSeat, CountsGoOn, BandCountsGoOn, VisitedGoesOn, FinishedGoesOn, OneBandIsAll, LastFormStays, LastFormStaysInBand, CompleteMeets, FormOnceAside, FormWhereAside, HolderStays, ResponseStays, ClosedStays, SessionsGrow, BeginningIsLegal, CompleteStays, ProblemStays, SameProblem, EachMayFollow, ListHasForm, NoneShownOfList, NoneServedOfList, NoneOpenOfList, ListIsLegal, ListStays, ListByWords, PlaceHasList, NamedHasBooking};
 
-/// What may follow, by its tree, is legal: a form marked proved is best, and eligibility is set aside for the stated cause.
+/// What may follow, by its tree, is legal: a form marked proved is best, and eligibility is set
+/// aside for the stated cause.
 pub fn may_is_legal()
     ensures { MayIsLegal }
 {}
@@ -80,7 +81,8 @@ pub fn only_bands_of_plan()
     ensures { OnlyBandsOfPlan }
 {}
 
-/// Eligibility is set aside at the step that the session has come to, in the band of the estimate at that step.
+/// Eligibility is set aside at the step that the session has come to, in the band of the estimate
+/// at that step.
 pub fn aside_is_of_estimate()
     ensures { AsideIsOfEstimate }
 {}
@@ -95,7 +97,8 @@ pub fn pending_is_of_seat()
     ensures { PendingIsOfSeat }
 {}
 
-/// One legal entry more changes the exposure counts only where it finishes its session, and then by that session's seat.
+/// One legal entry more changes the exposure counts only where it finishes its session, and then by
+/// that session's seat.
 pub fn counts_go_on()
     ensures { CountsGoOn }
 {}
@@ -120,13 +123,15 @@ pub fn one_band_is_all()
     ensures { OneBandIsAll }
 {}
 
-/// The form last served from, or that of the list before the first item, stays a form of the problem that the session has
-/// once eligibility is set aside in the band of its estimate: so a session that has begun never lacks one then.
+/// The form last served from, or that of the list before the first item, stays a form of the
+/// problem that the session has once eligibility is set aside in the band of its estimate: so a
+/// session that has begun never lacks one then.
 pub fn last_form_stays()
     ensures { LastFormStays }
 {}
 
-/// It stays a form of the session's problem as it is, where the estimate is in the band of the step before.
+/// It stays a form of the session's problem as it is, where the estimate is in the band of the step
+/// before.
 pub fn last_form_stays_in_band()
     ensures { LastFormStaysInBand }
 {}
@@ -136,8 +141,9 @@ pub fn complete_meets()
     ensures { CompleteMeets }
 {}
 
-/// With eligibility set aside in the band of the estimate, the form last served from is a form of the session's problem;
-/// before the first item, that of the list is one, or without a list each set that meets the plan.
+/// With eligibility set aside in the band of the estimate, the form last served from is a form of
+/// the session's problem; before the first item, that of the list is one, or without a list each
+/// set that meets the plan.
 pub fn form_once_aside()
     ensures { FormOnceAside }
 {}
@@ -147,7 +153,8 @@ pub fn form_where_aside()
     ensures { FormWhereAside }
 {}
 
-/// A session with a list never lacks a form once eligibility is set aside, at step 0 too: its seat has one.
+/// A session with a list never lacks a form once eligibility is set aside, at step 0 too: its seat
+/// has one.
 pub fn list_has_form()
     ensures { ListHasForm }
 {}
@@ -157,7 +164,8 @@ pub fn none_shown_of_list()
     ensures { NoneShownOfList }
 {}
 
-/// No form that an item is served from has an item of the list, also where eligibility is set aside.
+/// No form that an item is served from has an item of the list, also where eligibility is set
+/// aside.
 pub fn none_served_of_list()
     ensures { NoneServedOfList }
 {}
@@ -167,7 +175,8 @@ pub fn none_open_of_list()
     ensures { NoneOpenOfList }
 {}
 
-/// The list of a session of a legal run has items, all of the bank, and a form of the whole problem without them.
+/// The list of a session of a legal run has items, all of the bank, and a form of the whole problem
+/// without them.
 pub fn list_is_legal()
     ensures { ListIsLegal }
 {}
@@ -177,12 +186,14 @@ pub fn list_stays()
     ensures { ListStays }
 {}
 
-/// The test of the words of a set is whether the set is a list for the bank: it has items, all of the bank.
+/// The test of the words of a set is whether the set is a list for the bank: it has items, all of
+/// the bank.
 pub fn list_by_words()
     ensures { ListByWords }
 {}
 
-/// A place as the reply to a request with a list is that of the booking's session, which was started with that list.
+/// A place as the reply to a request with a list is that of the booking's session, which was
+/// started with that list.
 pub fn place_has_list()
     ensures { PlaceHasList }
 {}
@@ -217,8 +228,8 @@ pub fn complete_stays()
     ensures { CompleteStays }
 {}
 
-/// While a session waits for the item of one step, with eligibility set aside or not as before in the band of its estimate,
-/// its problem stays the same, whatever is done in other sessions.
+/// While a session waits for the item of one step, with eligibility set aside or not as before in
+/// the band of its estimate, its problem stays the same, whatever is done in other sessions.
 pub fn problem_stays()
     ensures { ProblemStays }
 {}
@@ -238,8 +249,9 @@ pub fn lifted_may_follow()
     ensures { LiftedMayFollow }
 {}
 
-/// A problem that was made before an answer came is the session's problem once that answer is recorded, whatever was done in
-/// other sessions meanwhile, if eligibility is set aside in its band or not as it was then.
+/// A problem that was made before an answer came is the session's problem once that answer is
+/// recorded, whatever was done in other sessions meanwhile, if eligibility is set aside in its band
+/// or not as it was then.
 pub fn ahead_stays()
     ensures { AheadStays }
 {}
@@ -249,8 +261,8 @@ pub fn answered_there()
     ensures { AnsweredThere }
 {}
 
-/// An answer or a closing that names a booking, and is not refused, is of the session that was started
-/// for this booking.
+/// An answer or a closing that names a booking, and is not refused, is of the session that was
+/// started for this booking.
 pub fn named_has_booking()
     ensures { NamedHasBooking }
 {}

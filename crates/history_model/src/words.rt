@@ -5,8 +5,8 @@ ghost use Rattle.history_model.specs.Words.{refusal_word};
 
 use crate::refusal::Refusal;
 
-/// The word for a refusal, in replies of each kind: lowercase letters and dashes. A reply has the value of the refusal
-/// beside it.
+/// The word for a refusal, in replies of each kind: lowercase letters and dashes. A reply has the
+/// value of the refusal beside it.
 pub fn refusal_word(refusal: Refusal) -> &'static str
     ensures { result.now ≡ refusal_word refusal }
 {

@@ -1,4 +1,5 @@
-//! Books of plans with two bands: where a session goes, what is counted of it there, and what is eligible for the next one.
+//! Books of plans with two bands: where a session goes, what is counted of it there, and what is
+//! eligible for the next one.
 
 use crate::trials::{Question, Setting, Trial, expect_trial};
 use crate::worked::{Line, Shape};
@@ -28,7 +29,8 @@ const AFTER_ONE: &[Question] = &[
     Question::Band(0, 1, &[(0, 1), (1, 1), (1, 1), (1, 1), (0, 1), (0, 1)]),
     Question::Band(1, 0, NOTHING),
     Question::Reason(Line::StartedInTwo(1, 71, [0x31, EACH]), None),
-    // One band of two; an item more in the first band, one less in the second, and both: the lower of the two items.
+    // One band of two; an item more in the first band, one less in the second, and both: the lower
+    // of the two items.
     Question::Reason(Line::Started(1, 71, 0x31), Some(Illegal::NotDrawn(0))),
     Question::Reason(
         Line::StartedInTwo(1, 71, [0x35, EACH]),
@@ -44,7 +46,8 @@ const AFTER_ONE: &[Question] = &[
     ),
 ];
 
-/// Session 1 is served item 5 in the first band. Response 1 moves its estimate to the second, where it is served items 4 and
+/// Session 1 is served item 5 in the first band. Response 1 moves its estimate to the second, where
+/// it is served items 4 and
 /// 1. It is closed while item 1 waits for an answer.
 const BOTH: &[Line] = &[
     Line::StartedInTwo(0, 70, [EACH, EACH]),
@@ -72,8 +75,8 @@ const AFTER_BOTH: &[Question] = &[
     Question::Exposure(1, Some(Counts { alpha: 2, eps: 2 })),
 ];
 
-/// Three sessions of two items each: the first item in the first band, the second in the other. Items 0, 1; then 1, 2; then 0,
-/// 1, where eligibility is set aside in each band.
+/// Three sessions of two items each: the first item in the first band, the second in the other.
+/// Items 0, 1; then 1, 2; then 0, 1, where eligibility is set aside in each band.
 const THREE: &[Line] = &[
     Line::StartedInTwo(0, 70, [7, 7]),
     Line::Served(0, (0, 0), 3, Shape::Plain),
@@ -149,8 +152,8 @@ const MOVED: &[Line] = &[
     Line::Answered(0, (0, 1), Shape::NoTree),
 ];
 
-/// Eligibility is set aside in the first band, and not in the second. There the tree is the next thing: nothing is left open,
-/// since the last form is the best.
+/// Eligibility is set aside in the first band, and not in the second. There the tree is the next
+/// thing: nothing is left open, since the last form is the best.
 const IN_SECOND: &[Question] = &[
     Question::IsAside(0, false),
     Question::Reason(

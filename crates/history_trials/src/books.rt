@@ -68,8 +68,9 @@ const AFTER_START: &[Question] = &[
         Line::StartedInTwo(1, 71, [EACH, EACH]),
         Some(Illegal::NotDrawn(0)),
     ),
-    // A list: after the draw an empty one, one with an item beyond the bank, and one whose form has an item of it, or two of the
-    // row that needs exactly one of 0 and 1. Without item 2 there is the form {1, 3, 5}.
+    // A list: after the draw an empty one, one with an item beyond the bank, and one whose form has
+    // an item of it, or two of the row that needs exactly one of 0 and 1. Without item 2 there is
+    // the form {1, 3, 5}.
     Question::Reason(
         Line::StartedWithout(1, 71, 0x37, (0, 0x2a)),
         Some(Illegal::NotDrawn(3)),

@@ -1,4 +1,5 @@
-//! The draw of eligible items: the inequality at its edge, and the words of ChaCha20 with the key of zeros.
+//! The draw of eligible items: the inequality at its edge, and the words of ChaCha20 with the key
+//! of zeros.
 
 use crate::equal::expect_equal;
 use eligibility_draw::{admits, draw, draw_band};
@@ -19,7 +20,8 @@ const EDGES: [Edge; 9] = [
     // An item that was never shown.
     (HIGHEST, (1, 4), (0, 4), true),
     (HIGHEST, (1, 1), (3, 3), true),
-    // 65,535 w < 2^32 n, where 65,535 * 65,537 is 2^32 - 1. On both sides there is a factor 65,536 besides.
+    // 65,535 w < 2^32 n, where 65,535 * 65,537 is 2^32 - 1. On both sides there is a factor 65,536
+    // besides.
     (65_537, (1, 65_535), (65_536, 65_536), true),
     (65_538, (1, 65_535), (65_536, 65_536), false),
     // At the highest word the left side is 65,535 below 2^32 * 65,535.
@@ -64,8 +66,9 @@ fn four_sessions<R: Abort>(rt: &R, alloc: Global) -> Counters {
     counters
 }
 
-/// The first six words of the stream of ChaCha20 with the key and nonce of zeros, from its published test vector (RFC
-/// 8439), are ade0b876, 903df1a0, e56a5d40, 28bd8653, b819d2bd and 1aed8da0; those below 2^31 are the fourth and the sixth.
+/// The first six words of the stream of ChaCha20 with the key and nonce of zeros, from its
+/// published test vector (RFC 8439), are ade0b876, 903df1a0, e56a5d40, 28bd8653, b819d2bd and
+/// 1aed8da0; those below 2^31 are the fourth and the sixth.
 #[test]
 fn a_draw_at_one_half(rt: HostRuntime) {
     let counters = four_sessions(&rt, rt.alloc());
@@ -73,9 +76,9 @@ fn a_draw_at_one_half(rt: HostRuntime) {
     expect_equal(&rt, &eligible, &set_of(&[3, 5]));
 }
 
-/// The words at the places 512 to 517 and 3,584 to 3,589 of that stream are a3df42f9, 391ab472, f2bbab0e, 433d3896, 61ae6684,
-/// 8105b505 and 41f2aea2, 0de6ec85, 52e8a7ae, 48d37fed, 3cc05ccf, fad9b5a0 (OpenSSL's chacha20 with block counters 32 and
-/// 224).
+/// The words at the places 512 to 517 and 3,584 to 3,589 of that stream are a3df42f9, 391ab472,
+/// f2bbab0e, 433d3896, 61ae6684, 8105b505 and 41f2aea2, 0de6ec85, 52e8a7ae, 48d37fed, 3cc05ccf,
+/// fad9b5a0 (OpenSSL's chacha20 with block counters 32 and 224).
 const ONE_HALF_IN_BANDS: [(u8, &[u16]); 3] = [(0, &[3, 5]), (1, &[1, 3, 4]), (7, &[0, 1, 2, 3, 4])];
 
 fn expect_drawn<R: Abort>(rt: &R, counters: &Counters, band: u8, items: &[u16]) {

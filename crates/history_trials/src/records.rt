@@ -1,4 +1,5 @@
-//! The payloads of records in both versions of the journal: the worked ones, read and written again, and each fault that they can have at its place.
+//! The payloads of records in both versions of the journal: the worked ones, read and written
+//! again, and each fault that they can have at its place.
 
 ghost use Rattle.std.specs.Prelude.{IsTrue};
 ghost use Rattle.std.specs.Option.{option_copied};

@@ -22,12 +22,12 @@ pub(crate) enum Setting {
     /// Bank A and its worked plan, in which each item is always eligible. A step has this budget of
     /// nodes.
     Worked(u32),
-    /// Bank A with other log-likelihoods of response 1 to item 5, which speak for the third point. The worked plan
-    /// with two bands, of which the second begins at that point; of 65,535 sessions one is to see an item. A step has a
-    /// budget of one node.
+    /// Bank A with other log-likelihoods of response 1 to item 5, which speak for the third point.
+    /// The worked plan with two bands, of which the second begins at that point; of 65,535 sessions
+    /// one is to see an item. A step has a budget of one node.
     TwoBands,
-    /// Three items, of which response 1 to one of the first two moves the estimate from the first point to the second; a
-    /// test of two items, with a band for each point; else as before.
+    /// Three items, of which response 1 to one of the first two moves the estimate from the first
+    /// point to the second; a test of two items, with a band for each point; else as before.
     BandOfPoints,
     /// A bank of one item, and a test of it for so many sessions. Each session is started, served
     /// its item and answered.
@@ -52,7 +52,8 @@ pub(crate) enum Question {
     Seat(u32, [u16; 2], u16, u8, u8),
     /// The exposure counts of an item; None where there is no such item.
     Exposure(u16, Option<Counts>),
-    /// In a band the number of finished sessions that visited it, and alpha and eps of the first items.
+    /// In a band the number of finished sessions that visited it, and alpha and eps of the first
+    /// items.
     Band(u8, u32, &'static [(u32, u32)]),
     /// Whether eligibility is set aside for a session in the band of its estimate.
     IsAside(u32, bool),
@@ -304,7 +305,8 @@ fn draft_of_points<R: Abort>(rt: &R, alloc: Global) -> Draft {
     draft
 }
 
-/// The draft with two bands, of which the second begins at a point. Of 65,535 sessions one is to see an item.
+/// The draft with two bands, of which the second begins at a point. Of 65,535 sessions one is to
+/// see an item.
 fn in_bands<R: Abort>(rt: &R, alloc: Global, mut draft: Draft, point: u8) -> Draft {
     draft.bands = List::of([point].to_vec(alloc).expect(rt, "bands"));
     draft.rate = Rate {

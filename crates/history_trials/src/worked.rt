@@ -9,11 +9,13 @@ use std::process::Abort;
 /// A tree of one node, Open.
 const OPEN: &[u8] = &[0, 7];
 
-/// It shows that {1, 2, 3} is best at first: side 3, the high side of the enemies, at 1 gives 6,143, which is 256 * 23 + 255.
+/// It shows that {1, 2, 3} is best at first: side 3, the high side of the enemies, at 1 gives
+/// 6,143, which is 256 * 23 + 255.
 pub(crate) const FIRST_BEST: &[u8] = &[1, 0, 1, 0, 3, 0, 0, 0, 1, 3, 0];
 
-/// It shows that {1, 2, 4} is best once item 2 was answered with 1, and the estimate is the third point: side 0, the low
-/// side of the count, at 1,536 gives -1,536 + 768 + 2,304 + 2,048, which is 256 * 14.
+/// It shows that {1, 2, 4} is best once item 2 was answered with 1, and the estimate is the third
+/// point: side 0, the low side of the count, at 1,536 gives -1,536 + 768 + 2,304 + 2,048, which is
+/// 256 * 14.
 const SECOND_BEST: &[u8] = &[1, 0, 1, 0, 0, 0, 0, 6, 0, 3, 0];
 
 /// That for the best form at first, with 4,096 in place of 1: it gives 8,960, which is above 6,143.
@@ -64,8 +66,8 @@ pub(crate) enum Line {
     StartedInTwo(u32, u64, [u8; 2]),
     /// The same in one band, with a list of items that the examinee must not get, and a form.
     StartedWithout(u32, u64, u8, (u8, u8)),
-    /// At a step eligibility is set aside in a band, since there is no form, or with an Open tree since a budget of one node
-    /// was spent.
+    /// At a step eligibility is set aside in a band, since there is no form, or with an Open tree
+    /// since a budget of one node was spent.
     SetAside(u32, (u16, u8), Shape),
     /// At a step an item is served from a form, which is marked proved by a tree of one node.
     Served(u32, (u16, u16), u8, Shape),

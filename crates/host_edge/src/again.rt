@@ -83,8 +83,8 @@ pub enum Accepted {
     Stream(TcpStream),
     /// None waits.
     Nothing,
-    /// An error that passes: of a connection that ended before it was accepted, or of a system that has too many
-    /// open files or too little memory.
+    /// An error that passes: of a connection that ended before it was accepted, or of a system that
+    /// has too many open files or too little memory.
     Passing(io::Error),
 }
 

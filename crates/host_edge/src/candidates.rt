@@ -27,9 +27,9 @@ struct Candidate {
     since: Instant,
 }
 
-/// The connections of a listener of which one is a leader, who answers what a follower writes first. Whoever else connects may
-/// stay silent: all are waited for together, what the follower writes goes to each, and the first that sends a byte is the
-/// leader.
+/// The connections of a listener of which one is a leader, who answers what a follower writes
+/// first. Whoever else connects may stay silent: all are waited for together, what the follower
+/// writes goes to each, and the first that sends a byte is the leader.
 #[derive(Drop)]
 pub(crate) struct Candidates {
     rt: HostRuntime,
@@ -107,7 +107,8 @@ impl Candidates {
         Ok(candidates)
     }
 
-    // Takes a connection, to which all is written that was written to the others. One of which a call fails is let go.
+    // Takes a connection, to which all is written that was written to the others. One of which a
+    // call fails is let go.
     fn admit(&mut self, stream: TcpStream) -> io::Result<()> {
         let _ = stream.set_nodelay(true);
         let since = Instant::now(&self.rt)?;
@@ -161,7 +162,8 @@ impl Candidates {
         }
     }
 
-    // Takes the next connection of the listener. An error that passes ends the connection that came first.
+    // Takes the next connection of the listener. An error that passes ends the connection that came
+    // first.
     fn accept(&mut self) -> io::Result<()> {
         match accept_once(&self.listener)? {
             Accepted::Stream(stream) => self.admit(stream),
@@ -190,8 +192,8 @@ impl Candidates {
         Ok(())
     }
 
-    /// Waits for the connection that sends the first byte, however long that takes. From now on its reads and writes wait, for
-    /// the limit at most. The others end.
+    /// Waits for the connection that sends the first byte, however long that takes. From now on its
+    /// reads and writes wait, for the limit at most. The others end.
     pub(crate) fn first_to_send(&mut self) -> io::Result<TcpStream> {
         for _ in 0..u64::MAX {
             if let Some(stream) = self.take_first() {

@@ -6,9 +6,10 @@ use std::os::unix::net::UnixListener;
 use std::sync::Arc;
 use std::sync::atomic::{AtomicBool, Ordering};
 
-/// Whether the server is to end. The journal's file sets it where the journal is lost, and each door that sees it gives no more
-/// links. And whether an operator asks for the end, by a connection to a socket, which is never accepted: each door that sees
-/// it gives the links of the messages in hand, and no more. Once set, each stays so.
+/// Whether the server is to end. The journal's file sets it where the journal is lost, and each
+/// door that sees it gives no more links. And whether an operator asks for the end, by a connection
+/// to a socket, which is never accepted: each door that sees it gives the links of the messages in
+/// hand, and no more. Once set, each stays so.
 #[derive(Drop)]
 pub struct Closing {
     flag: Arc<AtomicBool, Global>,
@@ -18,8 +19,8 @@ pub struct Closing {
 }
 
 impl Closing {
-    /// Nothing that ends a server has happened. It is asked to end at this socket, if there is one. An error where there is no
-    /// room for it.
+    /// Nothing that ends a server has happened. It is asked to end at this socket, if there is one.
+    /// An error where there is no room for it.
     pub fn new(alloc: Global, operator: Option<UnixListener>) -> Result<Closing, AllocError> {
         Ok(Closing {
             flag: Arc::new(alloc, AtomicBool::new(false))?,

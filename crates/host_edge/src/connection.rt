@@ -10,11 +10,12 @@ use std::io;
 use std::io::ErrorKind;
 use std::net::{Shutdown, TcpStream};
 
-// How many bytes of a connection that ends are read, so that the system does not throw away a response on its way.
+// How many bytes of a connection that ends are read, so that the system does not throw away a
+// response on its way.
 const LAST_BYTES: usize = 65_536;
 
-/// A connection of a door, with what was read of it and not yet given to a link, and what its links wrote and its client has
-/// not taken. None of its calls waits.
+/// A connection of a door, with what was read of it and not yet given to a link, and what its links
+/// wrote and its client has not taken. None of its calls waits.
 #[derive(Drop)]
 pub struct Connection {
     stream: TcpStream,
@@ -29,7 +30,8 @@ pub struct Connection {
 }
 
 impl Connection {
-    /// A new connection, of which nothing was read. An error where the system can't keep its calls from waiting.
+    /// A new connection, of which nothing was read. An error where the system can't keep its calls
+    /// from waiting.
     pub(crate) fn of(alloc: Global, stream: TcpStream) -> io::Result<Connection> {
         stream.set_nonblocking(true)?;
         let _ = stream.set_nodelay(true);
@@ -68,8 +70,8 @@ impl Connection {
         self.ends
     }
 
-    /// How many of its bytes are the next message, if that can be served: it is there as a whole, and its client has taken
-    /// the responses before it.
+    /// How many of its bytes are the next message, if that can be served: it is there as a whole,
+    /// and its client has taken the responses before it.
     pub(crate) fn next_message(&self) -> Option<usize> {
         if self.has_unsent() || !self.has_begun() {
             return None;
@@ -89,8 +91,8 @@ impl Connection {
         }
     }
 
-    /// Sends and reads what can be sent and read now. Whether that moved it on: its client took bytes, if some were unsent,
-    /// else it sent some. An error where it has failed.
+    /// Sends and reads what can be sent and read now. Whether that moved it on: its client took
+    /// bytes, if some were unsent, else it sent some. An error where it has failed.
     pub(crate) fn attend(&mut self) -> io::Result<bool> {
         if !self.has_unsent() {
             return self.receive();
@@ -150,7 +152,8 @@ impl Connection {
         Ok(came)
     }
 
-    // Reads once: so many bytes, none where its client sends no more. Those of a connection that ends are let go.
+    // Reads once: so many bytes, none where its client sends no more. Those of a connection that
+    // ends are let go.
     fn receive_piece(&mut self) -> io::Result<usize> {
         let mut piece = [0u8; 4096];
         let mut stream = &self.stream;
@@ -164,7 +167,8 @@ impl Connection {
     }
 }
 
-/// A connection whose first bytes are a message, or will be refused: the part of it that a link serves.
+/// A connection whose first bytes are a message, or will be refused: the part of it that a link
+/// serves.
 #[derive(Drop)]
 pub(crate) struct Gathered {
     connection: Connection,
@@ -207,7 +211,8 @@ impl Gathered {
         self.connection.write(piece)
     }
 
-    /// The connection without the message, to be served further, or to end once its client has taken what was written.
+    /// The connection without the message, to be served further, or to end once its client has
+    /// taken what was written.
     pub(crate) fn into_connection(self, goes_on: bool) -> Connection
         ensures { serves (Some result) ≡ goes_on }
     {
@@ -226,7 +231,8 @@ impl Gathered {
     }
 }
 
-// Takes so many bytes from the front, or all, and gives the memory back that is not needed any more.
+// Takes so many bytes from the front, or all, and gives the memory back that is not needed any
+// more.
 fn cut_front(bytes: &mut Vec<u8>, count: usize) {
     let (start, end) = (count.min(bytes.len()), bytes.len());
     bytes.copy_within(start..end, 0);

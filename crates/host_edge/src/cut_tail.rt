@@ -135,8 +135,9 @@ fn records_before(file: &File, gate: u64) -> io::Result<u64> {
     Ok(u64::MAX)
 }
 
-/// What follows the closed gate at a place of the file, where it is to be kept: two or more whole records. A move that did
-/// not end is not kept: its mark is followed by no more records than are before the gate, and it repeats them.
+/// What follows the closed gate at a place of the file, where it is to be kept: two or more whole
+/// records. A move that did not end is not kept: its mark is followed by no more records than are
+/// before the gate, and it repeats them.
 pub fn tail_of(file: &File, gate: u64) -> io::Result<Option<Tail>> {
     let Following {
         records,
@@ -152,8 +153,8 @@ pub fn tail_of(file: &File, gate: u64) -> io::Result<Option<Tail>> {
     }))
 }
 
-// Makes a file for the bytes behind the gate at a place, which its owner alone may use, and gives its path. A name that is
-// taken gets a number.
+// Makes a file for the bytes behind the gate at a place, which its owner alone may use, and gives
+// its path. A name that is taken gets a number.
 fn new_copy(rt: &HostRuntime, journal: &str, gate: u64) -> io::Result<(String, File)> {
     for number in 1..=MOST_NAMES {
         let name = copy_name(rt, journal, gate, number)?;
@@ -201,8 +202,9 @@ fn copy_from(file: &File, from: u64, copy: &File) -> io::Result<()> {
     copy.sync_all()
 }
 
-/// Keeps the bytes behind the closed gate at a place of a journal in a file of their own, beside it, and gives the path of
-/// that file. An error where they are not all on the disk then; no part of a copy is left.
+/// Keeps the bytes behind the closed gate at a place of a journal in a file of their own, beside
+/// it, and gives the path of that file. An error where they are not all on the disk then; no part
+/// of a copy is left.
 pub fn keep_tail(rt: &HostRuntime, journal: &str, file: &File, gate: u64) -> io::Result<String> {
     let (name, copy) = new_copy(rt, journal, gate)?;
     let kept = copy_from(file, gate.saturating_add(1), &copy).and_then(|()| sync_folder(

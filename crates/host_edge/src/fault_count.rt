@@ -8,7 +8,8 @@ use exam_edge::Failed;
 use std::io;
 use std::io::ErrorKind;
 
-/// How many calls of an object have failed, a count that stays at its last value, and why the last of them did.
+/// How many calls of an object have failed, a count that stays at its last value, and why the last
+/// of them did.
 #[derive(Drop)]
 pub struct FaultCount {
     count: u64,
@@ -60,7 +61,8 @@ impl FaultCount {
         }
     }
 
-    /// The answer of a call that moved so many bytes: fewer than `least` and more than `most` are a fault too.
+    /// The answer of a call that moved so many bytes: fewer than `least` and more than `most` are a
+    /// fault too.
     pub fn answer_count(
         &mut self,
         given: io::Result<usize>,

@@ -49,7 +49,8 @@ impl Seen {
     }
 }
 
-// How an open file was lost, if it was: by what is at its path, and the length that this program left, if that is known.
+// How an open file was lost, if it was: by what is at its path, and the length that this program
+// left, if that is known.
 fn loss_between(held: Seen, at_path: Option<Seen>, known: Option<u64>) -> Option<Loss>
     ensures removed { (result ≡ Some loss.Removed) ↔ (at_path ≡ None) }
     ensures replaced { result ≡ Some loss.Replaced
@@ -81,7 +82,8 @@ fn seen_at(rt: &HostRuntime, path: &str) -> io::Result<Option<Seen>> {
     }
 }
 
-/// The length in bytes that this program left in a file, as far as it is known, and how the file was lost, if it was.
+/// The length in bytes that this program left in a file, as far as it is known, and how the file
+/// was lost, if it was.
 #[derive(Drop)]
 pub struct FileWatch {
     length: Option<u64>,
@@ -135,8 +137,8 @@ impl FileWatch {
         }
     }
 
-    /// Compares the open file with what is at its path, before it is changed. An error where it is lost, or where the
-    /// system does not say. What is lost stays so.
+    /// Compares the open file with what is at its path, before it is changed. An error where it is
+    /// lost, or where the system does not say. What is lost stays so.
     pub fn look(&mut self, rt: &HostRuntime, path: &str, file: &File) -> io::Result<()>
         ensures length { length_of self.new ≡ length_of self.old }
         ensures ok { OnOk result (loss_of self.new ≡ None) }

@@ -15,14 +15,16 @@ use crate::{Lines, Reserve};
 use exam_edge::{Disk, Failed};
 use std::io;
 
-/// A file by its path, which is opened at the first call. It is opened once, and no other `HostDisk`
-/// opens it meanwhile, of this process or another. It does not report its content.
+/// A file by its path, which is opened at the first call. It is opened once, and no other
+/// `HostDisk` opens it meanwhile, of this process or another. It does not report its content.
 ///
-/// Before each write and each cut the file is compared with what is at its path. Once it is removed, replaced or of another
-/// length than this object left, each call fails from that cause, and nothing is written anywhere.
+/// Before each write and each cut the file is compared with what is at its path. Once it is
+/// removed, replaced or of another length than this object left, each call fails from that cause,
+/// and nothing is written anywhere.
 ///
-/// Standard error has a line at the first call that fails, one when bytes were written and synced since, one where the
-/// journal is lost, one on rights of other users, and those on what is put aside.
+/// Standard error has a line at the first call that fails, one when bytes were written and synced
+/// since, one where the journal is lost, one on rights of other users, and those on what is put
+/// aside.
 #[derive(Drop)]
 pub struct HostDisk {
     file: JournalFile,
@@ -71,8 +73,8 @@ impl HostDisk {
         disk
     }
 
-    /// The file of this path, to be read alone. Each call fails if there is none, or a folder in its
-    /// place, and so does each write or cut; no call has failed yet.
+    /// The file of this path, to be read alone. Each call fails if there is none, or a folder in
+    /// its place, and so does each write or cut; no call has failed yet.
     pub fn to_read(rt: HostRuntime, path: String) -> HostDisk
         ensures count { count_of (faults_of result) ≡ 0 }
         ensures cause { cause_of (faults_of result) ≡ None }
@@ -124,7 +126,8 @@ impl HostDisk {
         }
     }
 
-    // The answer of a call of which the file gave this: the same, or a fault that is told and counted.
+    // The answer of a call of which the file gave this: the same, or a fault that is told and
+    // counted.
     fn answer<T: Drop>(&mut self, given: io::Result<T>) -> Result<T, Failed>
         ensures done { IfOk given (λ x. result ≡ Ok x) }
         ensures failed { IfErr given

@@ -1,6 +1,6 @@
 //! A door of the host.
 
-ghost use Rattle.std.specs.Prelude.{◌≡◌, ◌≢◌, ◌≤◌, ◌-◌, [], All, vec_len, Ok, Some, None, true, false, is_ok, is_some, option_map, IsErr, IsNone, IfOk, OnErr};
+ghost use Rattle.std.specs.Prelude.{◌≡◌, ◌≤◌, ◌-◌, [], All, vec_len, Ok, Some, None, true, false, is_ok, is_some, option_map, IsErr, IsNone, IfOk, OnErr};
 ghost use Rattle.exam_edge.specs.Faults.{Rose};
 ghost use Rattle.host_edge.specs.FaultCount.{count_of, cause_of, IsCounted};
 ghost use Rattle.host_edge.specs.HostDoor.{comes_from, listens, left_of, out_of, ended_of, faults_of, IsLinkCounted};
@@ -67,11 +67,12 @@ enum Choice {
 // How many bytes all doors of a server hold at most for connections that no worker serves.
 const MOST_HELD: usize = 64 << 20;
 
-/// The connections of a listener, which other doors may share, one after another, or those that it makes to an address. It
-/// gives no more after a stated number of links, if there is one. If there is none, the doors of a server keep the
-/// connections, and give a part of one that is a message and its response, when that message is there as a whole. A door with neither a listener nor an address fails at each accept.
-/// Where the journal is lost, it gives no more links from the flag on that the journal's file sets. It does not report its
-/// links.
+/// The connections of a listener, which other doors may share, one after another, or those that it
+/// makes to an address. It gives no more after a stated number of links, if there is one. If there
+/// is none, the doors of a server keep the connections, and give a part of one that is a message
+/// and its response, when that message is there as a whole. A door with neither a listener nor an
+/// address fails at each accept. Where the journal is lost, it gives no more links from the flag on
+/// that the journal's file sets. It does not report its links.
 #[derive(Drop)]
 pub struct HostDoor {
     rt: HostRuntime,
@@ -123,8 +124,8 @@ fn link_of(
 }
 
 impl HostDoor {
-    /// A door of this listener that gives so many links, or any number of them; no call has failed yet. Each link waits so
-    /// long for the first byte of a message. No connection is kept aside.
+    /// A door of this listener that gives so many links, or any number of them; no call has failed
+    /// yet. Each link waits so long for the first byte of a message. No connection is kept aside.
     pub fn of(
         rt: HostRuntime,
         listener: Option<TcpListener>,
@@ -146,9 +147,10 @@ impl HostDoor {
         )
     }
 
-    /// The door of a follower: a link is the connection of this listener that sends a byte first, after what was written to
-    /// all. Others that are there meanwhile end, and one that is silent for a minute does. Each read after that byte and each
-    /// write waits for at most a minute. No call has failed yet.
+    /// The door of a follower: a link is the connection of this listener that sends a byte first,
+    /// after what was written to all. Others that are there meanwhile end, and one that is silent
+    /// for a minute does. Each read after that byte and each write waits for at most a minute. No
+    /// call has failed yet.
     pub fn to_follow(rt: HostRuntime, listener: Option<TcpListener>) -> HostDoor
         ensures listens { listens result ≡ is_some listener }
         ensures left { left_of result ≡ None }
@@ -165,9 +167,9 @@ impl HostDoor {
         )
     }
 
-    /// The door of a shipper: one link, which accept makes by a connection to this address. A connection that is refused, or
-    /// not made within a minute, is a fault of the door. Each read and write of it waits for at most a minute. No call has
-    /// failed yet.
+    /// The door of a shipper: one link, which accept makes by a connection to this address. A
+    /// connection that is refused, or not made within a minute, is a fault of the door. Each read
+    /// and write of it waits for at most a minute. No call has failed yet.
     pub fn to_ship(rt: HostRuntime, address: String) -> HostDoor
         ensures listens { listens result ≡ true }
         ensures left { left_of result ≡ Some 1 }
@@ -212,8 +214,8 @@ impl HostDoor {
         }
     }
 
-    // A door of this listener that gives any number of links, and keeps connections, for which it holds so many bytes at most.
-    // It has no listener where the system cannot watch it.
+    // A door of this listener that gives any number of links, and keeps connections, for which it
+    // holds so many bytes at most. It has no listener where the system cannot watch it.
     fn keeping(
         rt: HostRuntime,
         alloc: Global,
@@ -287,9 +289,10 @@ impl HostDoor {
         Ok(door)
     }
 
-    /// So many doors, which share the listener if there is one, and of which each gives so many links. A link waits so long
-    /// for the first byte of a message. A door for which the system shares the listener no more has none. They end by the flag, if
-    /// there is one. `Memory` where there is no room for them.
+    /// So many doors, which share the listener if there is one, and of which each gives so many
+    /// links. A link waits so long for the first byte of a message. A door for which the system
+    /// shares the listener no more has none. They end by the flag, if there is one. `Memory` where
+    /// there is no room for them.
     pub fn several(
         rt: HostRuntime,
         alloc: Global,
@@ -320,8 +323,8 @@ impl HostDoor {
         Ok(all)
     }
 
-    // The next link: a connection of the listener or a message of one, or a connection that is made; none where the server is to
-    // end.
+    // The next link: a connection of the listener or a message of one, or a connection that is
+    // made; none where the server is to end.
     fn next_link(&mut self) -> io::Result<Option<HostLink>>
         ensures listens { listens self.new ≡ listens self.old }
         ensures left { left_of self.new ≡ left_of self.old }

@@ -10,7 +10,6 @@ use crate::fault_count::FaultCount;
 use exam_edge::{Failed, Files};
 use std::fs::File;
 use std::io;
-use std::io::ErrorKind;
 
 // A file that was opened by this name.
 #[derive(Drop)]
@@ -19,8 +18,9 @@ struct NamedFile {
     file: File,
 }
 
-/// Files by their paths. The file that was read last is kept open: a file that is read from its front to its end is
-/// opened once, and is one file although another takes its name meanwhile. It does not report what its files hold.
+/// Files by their paths. The file that was read last is kept open: a file that is read from its
+/// front to its end is opened once, and is one file although another takes its name meanwhile. It
+/// does not report what its files hold.
 #[derive(Drop)]
 pub struct HostFiles {
     rt: HostRuntime,

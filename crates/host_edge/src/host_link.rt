@@ -16,9 +16,10 @@ use std::io::{ErrorKind, Read};
 use std::net::{Shutdown, TcpStream};
 use std::time::{Duration, Instant};
 
-/// A TCP connection, or, if its door keeps connections, the part of one that is a message and its response. It does not
-/// report its bytes. A read into an empty buffer lets it know that all bytes that it gave were used: the part of a connection
-/// ends there, and the door gives the next when it has another message as a whole.
+/// A TCP connection, or, if its door keeps connections, the part of one that is a message and its
+/// response. It does not report its bytes. A read into an empty buffer lets it know that all bytes
+/// that it gave were used: the part of a connection ends there, and the door gives the next when it
+/// has another message as a whole.
 #[derive(Drop)]
 pub struct HostLink {
     rt: HostRuntime,
@@ -46,12 +47,14 @@ pub struct Patience {
     pub first: Duration,
     /// For the next bytes of a message that has begun, and for room for what is written.
     pub between: Duration,
-    /// For a whole message, from its first byte or from the last write on: later than that no read begins.
+    /// For a whole message, from its first byte or from the last write on: later than that no read
+    /// begins.
     pub whole: Duration,
 }
 
 impl Patience {
-    /// That of the messages of HTTP: so long for the first byte, then 5 seconds for the next bytes and 15 for a whole message.
+    /// That of the messages of HTTP: so long for the first byte, then 5 seconds for the next bytes
+    /// and 15 for a whole message.
     pub fn of_messages(first: Duration) -> Patience {
         Patience {
             first,
@@ -84,7 +87,8 @@ enum Stage {
     Over,
 }
 
-// How many seconds a link waits for the next bytes of a message that has begun, and for room for its response.
+// How many seconds a link waits for the next bytes of a message that has begun, and for room for
+// its response.
 pub(crate) const BETWEEN: u64 = 5;
 
 // How many seconds a message may take from its first byte.
@@ -93,7 +97,8 @@ pub(crate) const WHOLE: u64 = 15;
 // How many seconds a side of records waits for the other.
 const MINUTE: u64 = 60;
 
-// How many seconds, and in how many reads, the end of a connection waits for what its client still sends.
+// How many seconds, and in how many reads, the end of a connection waits for what its client still
+// sends.
 pub(crate) const LAST_WAIT: u64 = 1;
 
 const LAST_READS: u32 = 16;
@@ -117,8 +122,8 @@ fn read_rest(rt: &HostRuntime, stream: &mut TcpStream) -> io::Result<()> {
     Ok(())
 }
 
-// Ends a connection. Bytes that were not read make the system drop a reply on its way, so they are read first, for a stated
-// time.
+// Ends a connection. Bytes that were not read make the system drop a reply on its way, so they are
+// read first, for a stated time.
 fn end_stream(rt: &HostRuntime, stream: TcpStream) {
     let mut stream = stream;
     if stream.shutdown(Shutdown::Write).is_ok() {
@@ -152,8 +157,8 @@ fn receive_at(
 }
 
 impl HostLink {
-    /// The link over a connection; no call has failed yet. It waits so long. A reply is sent at once, and not held back for
-    /// more.
+    /// The link over a connection; no call has failed yet. It waits so long. A reply is sent at
+    /// once, and not held back for more.
     pub fn of(rt: HostRuntime, stream: TcpStream, patience: Patience) -> HostLink
         ensures count { count_of (faults_of result) ≡ 0 }
         ensures cause { cause_of (faults_of result) ≡ None }
@@ -201,8 +206,8 @@ impl HostLink {
         }
     }
 
-    /// Ends the connection, or, if its door keeps it, gives it back: to be served further exactly if the link is at rest, else
-    /// to end once its client has taken what was written.
+    /// Ends the connection, or, if its door keeps it, gives it back: to be served further exactly
+    /// if the link is at rest, else to end once its client has taken what was written.
     pub fn close(self) -> Option<Connection>
         ensures kept { is_gathered self ≡ true → serves result ≡ is_at_rest self }
         ensures ended { is_gathered self ≡ false → IsNone result }

@@ -15,7 +15,8 @@ use std::net::TcpListener;
 use std::os::fd::AsRawFd;
 use std::time::{Duration, Instant};
 
-// The token of the listener, and that of the socket of the operator. The connections have the numbers after them.
+// The token of the listener, and that of the socket of the operator. The connections have the
+// numbers after them.
 const LISTENER: usize = 0;
 
 const OPERATOR: usize = 1;
@@ -23,10 +24,12 @@ const OPERATOR: usize = 1;
 // How many events of the system are taken at a time.
 const EVENTS: usize = 64;
 
-// How many milliseconds pass before the connections are looked through for those that are over a limit of time.
+// How many milliseconds pass before the connections are looked through for those that are over a
+// limit of time.
 const TICK: u64 = 500;
 
-// How many milliseconds an end that is asked for waits for what is on its way, and for the messages that have begun.
+// How many milliseconds an end that is asked for waits for what is on its way, and for the messages
+// that have begun.
 const ON_ITS_WAY: u64 = 200;
 
 const LAST_MESSAGES: u64 = 4000;
@@ -86,9 +89,10 @@ fn place_of(idle: &[IdleStream], token: usize) -> Option<usize> {
     idle.binary_search_by(|one| one.token.cmp(&token)).ok()
 }
 
-/// The connections of one door that no worker serves, in the order in which the door got them. It gathers what their clients
-/// send, and sends what their clients have not taken yet, and waits for all of them and for the door's listener together. It
-/// gives a connection once that has a message as a whole. One whose client is over a limit of time is ended.
+/// The connections of one door that no worker serves, in the order in which the door got them. It
+/// gathers what their clients send, and sends what their clients have not taken yet, and waits for
+/// all of them and for the door's listener together. It gives a connection once that has a message
+/// as a whole. One whose client is over a limit of time is ended.
 #[derive(Drop)]
 pub(crate) struct IdleStreams {
     poll: Poll,
@@ -115,8 +119,8 @@ pub(crate) struct IdleStreams {
 }
 
 impl IdleStreams {
-    /// No connections yet, beside this listener, which must not block, and the socket of an operator, if there is one. So many
-    /// bytes may be held for the connections.
+    /// No connections yet, beside this listener, which must not block, and the socket of an
+    /// operator, if there is one. So many bytes may be held for the connections.
     pub(crate) fn of(
         rt: &HostRuntime,
         alloc: Global,
@@ -155,7 +159,8 @@ impl IdleStreams {
         })
     }
 
-    /// Keeps a connection until it has a message as a whole. It is ended where the system can't watch it, or without memory.
+    /// Keeps a connection until it has a message as a whole. It is ended where the system can't
+    /// watch it, or without memory.
     pub(crate) fn keep(&mut self, rt: &HostRuntime, connection: Connection) {
         let Ok(now) = Instant::now(rt) else {
             return;
@@ -204,7 +209,8 @@ impl IdleStreams {
         self.held = self.held.saturating_sub(bytes);
     }
 
-    // Waits so many milliseconds for news of a connection, of the listener or of the operator. Whether there may be more news.
+    // Waits so many milliseconds for news of a connection, of the listener or of the operator.
+    // Whether there may be more news.
     fn look(&mut self, lines: &Lines, wait: u64, closing: Option<&Closing>) -> io::Result<bool> {
         self.poll
             .poll(&mut self.events, Some(Duration::from_millis(wait)))?;
@@ -235,7 +241,8 @@ impl IdleStreams {
         Some(connection)
     }
 
-    // Attends to the connection at a place, and moves it on if its message is whole, or lets it go if it is over.
+    // Attends to the connection at a place, and moves it on if its message is whole, or lets it go
+    // if it is over.
     fn attend(&mut self, place: usize, now: Instant) {
         let Some(one) = self.idle.get_mut(place) else {
             return;
@@ -271,7 +278,8 @@ impl IdleStreams {
         Ok(())
     }
 
-    // Ends the connections for which bytes were held longest, until no more bytes are held than may be.
+    // Ends the connections for which bytes were held longest, until no more bytes are held than may
+    // be.
     fn make_room(&mut self) {
         for _ in 0..u64::MAX {
             if self.held <= self.most {
@@ -325,7 +333,8 @@ impl IdleStreams {
         }
     }
 
-    // Accepts one connection if one waits, and answers how many milliseconds the next look may wait.
+    // Accepts one connection if one waits, and answers how many milliseconds the next look may
+    // wait.
     fn admit(
         &mut self,
         rt: &HostRuntime,
@@ -362,8 +371,8 @@ impl IdleStreams {
         self.idle.iter().any(|one| one.connection.has_begun() || one.connection.has_unsent())
     }
 
-    // Whether an end that is asked for is reached: what was on its way has come, and nothing is in hand or the time is over. No
-    // connection is accepted from then on.
+    // Whether an end that is asked for is reached: what was on its way has come, and nothing is in
+    // hand or the time is over. No connection is accepted from then on.
     fn is_at_end(&mut self, rt: &HostRuntime, closing: Option<&Closing>) -> io::Result<bool> {
         if !is_asked(closing) {
             return Ok(false);
@@ -377,8 +386,8 @@ impl IdleStreams {
         Ok(!self.has_work() || Duration::from_millis(LAST_MESSAGES) <= passed)
     }
 
-    /// The next connection that has a message as a whole. None once the journal is lost, at most half a second later, or an end
-    /// is asked for and the messages in hand are served.
+    /// The next connection that has a message as a whole. None once the journal is lost, at most
+    /// half a second later, or an end is asked for and the messages in hand are served.
     pub(crate) fn next(
         &mut self,
         rt: &HostRuntime,

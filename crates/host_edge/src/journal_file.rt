@@ -25,8 +25,9 @@ pub enum Access {
     WriteOrMake,
 }
 
-/// A file by its path, which is opened at its first use. It is opened once, and locked as long as it is open. Before each
-/// change it is compared with what is at its path, and once it is lost every call fails from that cause.
+/// A file by its path, which is opened at its first use. It is opened once, and locked as long as
+/// it is open. Before each change it is compared with what is at its path, and once it is lost
+/// every call fails from that cause.
 #[derive(Drop)]
 pub struct JournalFile {
     rt: HostRuntime,
@@ -38,7 +39,8 @@ pub struct JournalFile {
     watch: FileWatch,
 }
 
-// The length in bytes of a journal without entries. A shorter file becomes a journal where one is made.
+// The length in bytes of a journal without entries. A shorter file becomes a journal where one is
+// made.
 const LEAST_LENGTH: u64 = 9;
 
 // The rights of those who are not the owner of a file.
@@ -58,8 +60,8 @@ pub fn sync_folder(rt: &HostRuntime, path: &str) -> io::Result<()> {
     File::open(rt, folder_of(path))?.sync_all()
 }
 
-// Syncs the folder of the file of this path. Where a link leads to the file, the folder of the link is another one: it is
-// synced too.
+// Syncs the folder of the file of this path. Where a link leads to the file, the folder of the link
+// is another one: it is synced too.
 fn sync_folders(rt: &HostRuntime, path: &str) -> io::Result<()> {
     sync_folder(rt, path)?;
     let own = fs::canonicalize(rt, path)?;
@@ -71,8 +73,8 @@ fn sync_folders(rt: &HostRuntime, path: &str) -> io::Result<()> {
     }
 }
 
-// Removes the file of this path where it is empty. A folder whose sync failed may never get the name of a file that was
-// made in it, unless the file is made again.
+// Removes the file of this path where it is empty. A folder whose sync failed may never get the
+// name of a file that was made in it, unless the file is made again.
 fn remove_empty(rt: &HostRuntime, path: &str, file: &File) -> io::Result<()> {
     let found = file.metadata()?;
     if found.is_file() && found.len() == 0 {
@@ -94,7 +96,8 @@ fn lock(file: &File) -> io::Result<()> {
     }
 }
 
-// Tells where others than the owner have rights to the file. A file that was there keeps its rights.
+// Tells where others than the owner have rights to the file. A file that was there keeps its
+// rights.
 fn tell_rights(lines: &Lines, path: &str, file: &File) -> io::Result<()> {
     let mode = file.metadata()?.mode() & 0o777;
     if mode & RIGHTS_OF_OTHERS != 0 {
@@ -115,7 +118,8 @@ fn file_to_write(rt: &HostRuntime, lines: &Lines, path: &str) -> io::Result<File
     Ok(file)
 }
 
-// The same, where none is to be made. A file that is shorter than a journal without entries is refused: it would become one.
+// The same, where none is to be made. A file that is shorter than a journal without entries is
+// refused: it would become one.
 fn file_if_made(rt: &HostRuntime, lines: &Lines, path: &str) -> io::Result<File> {
     match file_to_write(rt, lines, path) {
         Ok(file) if file.metadata()?.len() < LEAST_LENGTH => Err(io::Error::new(
@@ -144,8 +148,8 @@ fn tell_made(lines: &Lines, path: &str, file: &File, was_there: bool) -> io::Res
     Ok(())
 }
 
-// Opens and locks the file of this path, and makes it if there is none, for its owner alone. Its folder is synced, so that a
-// file that was made is found after a crash.
+// Opens and locks the file of this path, and makes it if there is none, for its owner alone. Its
+// folder is synced, so that a file that was made is found after a crash.
 fn file_to_make(rt: &HostRuntime, lines: &Lines, path: &str) -> io::Result<File> {
     let was_there = fs::metadata(rt, path).is_ok();
     let file = OpenOptions::new()
@@ -295,9 +299,10 @@ impl JournalFile {
         file.sync_all()
     }
 
-    /// Tells of what follows the closed gate at this place and is about to be cut, where two or more whole records are there.
-    /// Unless the file is only read, it keeps those bytes in a file of their own. Records of a move to another version that did
-    /// not end are not told and not kept, since they repeat those before the gate. More records than those are of a move that
+    /// Tells of what follows the closed gate at this place and is about to be cut, where two or
+    /// more whole records are there. Unless the file is only read, it keeps those bytes in a file
+    /// of their own. Records of a move to another version that did not end are not told and not
+    /// kept, since they repeat those before the gate. More records than those are of a move that
     /// ended, whose gate was damaged since: they are told and kept.
     pub fn put_aside(&mut self, gate: u64) -> io::Result<()> {
         self.watch.test()?;

@@ -1,7 +1,8 @@
-//! The outside of the host, as the traits of `exam_edge` have it: its files, standard output, the journal's file, a
-//! listener and its connections, and a connection to an address. Upward: a call answers `Failed` exactly where the system's call failed or moved more
-//! bytes than there is room for, and each such call is counted. It makes an interrupted call again. It reports no
-//! content, so that nothing is claimed of what a file or a socket holds.
+//! The outside of the host, as the traits of `exam_edge` have it: its files, standard output, the
+//! journal's file, a listener and its connections, and a connection to an address. Upward: a call
+//! answers `Failed` exactly where the system's call failed or moved more bytes than there is room
+//! for, and each such call is counted. It makes an interrupted call again. It reports no content,
+//! so that nothing is claimed of what a file or a socket holds.
 #![tactic(auto)]
 
 mod again;

@@ -20,7 +20,8 @@ const LONGEST_TEXT: usize = LONGEST - 1;
 // The bytes that are copied at a time.
 const PIECE: usize = 4096;
 
-// So often it is looked whether all lines were copied, once each pause of so many milliseconds: a second in all.
+// So often it is looked whether all lines were copied, once each pause of so many milliseconds: a
+// second in all.
 const LOOKS: u32 = 100;
 
 const PAUSE: u64 = 10;
@@ -37,9 +38,10 @@ struct Queue {
     dropped: AtomicU64,
 }
 
-/// Lines on standard error. They are written by the caller, who may wait for the reader of standard error; or they are
-/// queued in a pipe of the system, from which a thread copies them. What finds the queue full is dropped and counted,
-/// so that its caller never waits. A line has 1,024 bytes at most, and is cut at the end if it would have more.
+/// Lines on standard error. They are written by the caller, who may wait for the reader of standard
+/// error; or they are queued in a pipe of the system, from which a thread copies them. What finds
+/// the queue full is dropped and counted, so that its caller never waits. A line has 1,024 bytes at
+/// most, and is cut at the end if it would have more.
 #[derive(Drop)]
 pub struct Lines {
     rt: HostRuntime,
@@ -154,7 +156,8 @@ impl Lines {
     }
 }
 
-// Writes bytes to standard error, and waits while it takes none. What it refuses otherwise is given up.
+// Writes bytes to standard error, and waits while it takes none. What it refuses otherwise is given
+// up.
 fn write_on(rt: &HostRuntime, bytes: &[u8]) {
     let mut out = rt.stderr();
     let mut rest = bytes;
@@ -195,7 +198,8 @@ impl LineCopier {
         }
     }
 
-    /// Copies lines as long as there are any to come. It waits for the reader of standard error, for ever if need be.
+    /// Copies lines as long as there are any to come. It waits for the reader of standard error,
+    /// for ever if need be.
     pub fn run(self) {
         let mut piece = [0u8; PIECE];
         for _ in 0..u64::MAX {

@@ -37,8 +37,9 @@ struct Shared {
     refused: AtomicU64,
 }
 
-/// A file of zeros beside a journal, the reserve. Where the disk has no room for bytes of the journal, a piece of 64 KiB is cut
-/// from its end, as often as that is needed. Other programs of the disk may take that room, too.
+/// A file of zeros beside a journal, the reserve. Where the disk has no room for bytes of the
+/// journal, a piece of 64 KiB is cut from its end, as often as that is needed. Other programs of
+/// the disk may take that room, too.
 #[derive(Drop)]
 pub struct Reserve {
     rt: HostRuntime,
@@ -48,13 +49,15 @@ pub struct Reserve {
     shared: Arc<Shared, Global>,
 }
 
-/// What writes a reserve, and writes it again once the disk had room for a minute, as the work of a thread of its own.
+/// What writes a reserve, and writes it again once the disk had room for a minute, as the work of a
+/// thread of its own.
 #[derive(Drop)]
 pub struct ReserveKeeper {
     reserve: Reserve,
     // How many bytes from the front were written and not cut since.
     written: u64,
-    // How many pieces were given back before the last round, and how many rounds passed since one was.
+    // How many pieces were given back before the last round, and how many rounds passed since one
+    // was.
     given: u64,
     calm: u64,
     // Whether the reserve was needed since it was whole.
@@ -67,7 +70,8 @@ fn is_of_room(cause: &io::Error) -> bool {
 }
 
 impl Reserve {
-    /// The reserve of so many bytes beside the journal of this path, and what keeps it. Nothing is written yet.
+    /// The reserve of so many bytes beside the journal of this path, and what keeps it. Nothing is
+    /// written yet.
     pub fn of(
         rt: HostRuntime,
         lines: &Lines,
@@ -144,8 +148,8 @@ impl Reserve {
         true
     }
 
-    /// Writes bytes of the journal at a place. Where the disk has no room for them, pieces of the reserve are given back, until it
-    /// has or nothing is left.
+    /// Writes bytes of the journal at a place. Where the disk has no room for them, pieces of the
+    /// reserve are given back, until it has or nothing is left.
     pub fn write(&self, journal: &File, at: u64, bytes: &[u8]) -> io::Result<()> {
         for _ in 0..MOST_PIECES {
             match journal.write_all_at(bytes, at) {
@@ -158,8 +162,9 @@ impl Reserve {
 }
 
 impl ReserveKeeper {
-    // Whether the reserve is to be written: the journal is open, and no piece was needed for a minute. After one was needed the
-    // whole file is written again, since a part of it may be without room.
+    // Whether the reserve is to be written: the journal is open, and no piece was needed for a
+    // minute. After one was needed the whole file is written again, since a part of it may be
+    // without room.
     fn is_due(&mut self) -> bool {
         let given = self.reserve.shared.given.load(Ordering::SeqCst);
         if given != self.given {
@@ -174,7 +179,8 @@ impl ReserveKeeper {
         is_wanted && (!self.is_used || CALM <= self.calm)
     }
 
-    // The reserve's file, at most as long as it is to be. It is made for its owner alone if there is none.
+    // The reserve's file, at most as long as it is to be. It is made for its owner alone if there
+    // is none.
     fn opened(&self) -> io::Result<File> {
         let file = OpenOptions::new()
             .read(true)
@@ -188,7 +194,8 @@ impl ReserveKeeper {
         Ok(file)
     }
 
-    // Writes zeros behind those that were written, up to a piece. Where that fails, the rest of the piece is given back.
+    // Writes zeros behind those that were written, up to a piece. Where that fails, the rest of the
+    // piece is given back.
     fn write_piece(&mut self, file: &File) -> io::Result<()> {
         let zeros = [0u8; PIECE];
         let count = self

@@ -27,8 +27,8 @@ fn number_of(value: &[u8]) -> Option<usize> {
     }
 }
 
-// How many bytes of a body are to be waited for: none after a head that will be refused for its fields. The fields are
-// places in the bytes.
+// How many bytes of a body are to be waited for: none after a head that will be refused for its
+// fields. The fields are places in the bytes.
 fn body_length(bytes: &[u8], fields: &[HeaderSpan]) -> usize
     requires { All (IsHeaderWithin (length bytes.now)) fields.now }
     ensures { result ≤ 4096 }
@@ -59,9 +59,9 @@ fn body_within(length: usize) -> usize
     if length > MOST_BODY { 0 } else { length }
 }
 
-/// How many of the first bytes of a connection are a message, if it is there as a whole, or bytes for which the next reader
-/// refuses it. Whoever reads so many bytes needs no more of them. The rules of the reader decide what they are; here is decided
-/// alone when it gets them.
+/// How many of the first bytes of a connection are a message, if it is there as a whole, or bytes
+/// for which the next reader refuses it. Whoever reads so many bytes needs no more of them. The
+/// rules of the reader decide what they are; here is decided alone when it gets them.
 pub fn message_end(bytes: &[u8]) -> Option<usize>
     ensures { IfSome result (λ end. end ≤ length bytes.now) }
 {

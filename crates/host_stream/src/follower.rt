@@ -1,6 +1,6 @@
 //! The connections to a follower.
 
-ghost use Rattle.std.specs.Prelude.{◌≡◌, ◌≤◌, [], false, true, is_some, IfOk, OnErr};
+ghost use Rattle.std.specs.Prelude.{◌≡◌, ◌≤◌, [], false, true, IfOk};
 ghost use Rattle.exam_edge.specs.Faults.{Rose};
 ghost use Rattle.host_edge.specs.HostDoor.{out_of};
 ghost use Rattle.host_stream.specs.HostFollower.{faults_of, is_out};
@@ -14,9 +14,9 @@ use std::time::Duration;
 /// How many seconds pass before the next connection.
 const PAUSE: u64 = 1;
 
-/// A door whose accept connects to the address of a follower, and waits for a second before, but for the first time. It gives
-/// any number of links, one after another, and does not report them. Standard error has a line where a connection is made, and
-/// one where none can be made any more.
+/// A door whose accept connects to the address of a follower, and waits for a second before, but
+/// for the first time. It gives any number of links, one after another, and does not report them.
+/// Standard error has a line where a connection is made, and one where none can be made any more.
 #[derive(Drop)]
 pub struct HostFollower {
     rt: HostRuntime,

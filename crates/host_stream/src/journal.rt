@@ -1,6 +1,6 @@
 //! The journal's file, which its server writes meanwhile.
 
-ghost use Rattle.std.specs.Prelude.{◌≡◌, ◌≤◌, [], false, None, length, IfOk, OnErr};
+ghost use Rattle.std.specs.Prelude.{◌≡◌, ◌≤◌, [], false, None, length, IfOk};
 ghost use Rattle.exam_edge.specs.Faults.{Rose};
 ghost use Rattle.host_stream.specs.HostJournal.{faults_of, none_served};
 
@@ -18,10 +18,11 @@ use std::{fs, io, thread};
 /// At least so many seconds pass from one line on the follower's records to the next.
 const LINES: u64 = 10;
 
-/// A journal's file by its path, which is opened at the first read after it is there, without a lock, and never written; and the address of
-/// its server, which is asked for its count of entries where a record is there that is not known to be settled. It does not
-/// report its content. Standard error has a line at each fault, and now and then one on how many records the follower has;
-/// or it is quiet, and has none of them.
+/// A journal's file by its path, which is opened at the first read after it is there, without a
+/// lock, and never written; and the address of its server, which is asked for its count of entries
+/// where a record is there that is not known to be settled. It does not report its content.
+/// Standard error has a line at each fault, and now and then one on how many records the follower
+/// has; or it is quiet, and has none of them.
 #[derive(Drop)]
 pub struct HostJournal {
     rt: HostRuntime,

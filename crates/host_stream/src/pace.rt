@@ -3,8 +3,8 @@
 /// How many milliseconds one wait takes.
 pub const PAUSE: u64 = 5;
 
-// So many waits pass before the server is asked for its count: 50 milliseconds; and then from one question to the next: 200;
-// or, where it did not answer, 2 seconds.
+// So many waits pass before the server is asked for its count: 50 milliseconds; and then from one
+// question to the next: 200; or, where it did not answer, 2 seconds.
 const FIRST: u32 = 10;
 
 const NEXT: u32 = 40;

@@ -55,7 +55,8 @@ fn entries_in(alloc: Global, response: &str) -> Option<u64> {
     health.get("entries").and_then(Value::as_u64)
 }
 
-/// How many entries the server at an address has, each of which it has settled; none where it does not say so.
+/// How many entries the server at an address has, each of which it has settled; none where it does
+/// not say so.
 pub fn count_entries(rt: &HostRuntime, address: &str) -> Option<u64> {
     let limit = Some(Duration::from_millis(LIMIT));
     let mut stream = connect(rt, address).ok()?;

@@ -22,7 +22,8 @@ exposed_in_band b plan H band tally exposure are finished rows = record {
 }
 
 -- ---- the bands, one after another
--- what is true of each element, and of one more at its place, is true of each element of the longer list
+-- what is true of each element, and of one more at its place, is true of each element of the longer
+-- list
 each_more : {X : Type 0} (P : ℕ → X → Type 0) (xs : List X) (y : X)
     → ((k : ℕ) (x : X) → slice_get xs k ≡ Some x → P k x) → P (length xs) y
     → (k : ℕ) (x : X) → slice_get (xs ++ y ∷ []) k ≡ Some x → P k x

@@ -141,7 +141,8 @@ pub fn audit<D: Disk>(
         → IsSettled (D.content disk.old) (D.accounts disk.old)
         → AtEachMoment (D.accounts disk.old) (D.accounts disk.new)
         (λ file. file ≡ D.content disk.old) }
-    // What opening would cut was put aside once. If there is no answer it may not have been; nothing else ever is.
+    // What opening would cut was put aside once. If there is no answer it may not have been;
+    // nothing else ever is.
     ensures aside { OnOk result (IsTrue (D.tells disk.old)
         → D.aside disk.new ≡ D.aside disk.old ++ tail_gates (D.content disk.old)) }
     ensures aside_err { OnErr result (IsTrue (D.tells disk.old)

@@ -45,7 +45,8 @@ fn exposure_of(alloc: Global, book: &Book) -> Result<Exposure, Memory>
     exposure_at(alloc, book.counters())
 }
 
-/// The number of finished sessions that visited a band, and the exposure counts there of each item of the bank.
+/// The number of finished sessions that visited a band, and the exposure counts there of each item
+/// of the bank.
 #[tactic(auto, using(crate::proofs::BandReports::exposed_in_band))]
 fn band_exposure_of(alloc: Global, book: &Book, band: u8) -> Result<Exposure, Memory>
     requires { band < bands_of book.now.plan }

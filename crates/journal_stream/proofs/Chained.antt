@@ -1,5 +1,5 @@
 -- A log that is streamed over links, one after another.
-use Rattle.std.proofs.Common.{◌≡◌, inl, inr, ℕ, Bool, List, [], ◌∷◌, ◌++◌, refl, sym, ap, ◌∙◌, subst, arith, append-nil, IsTrue}
+use Rattle.std.proofs.Common.{◌≡◌, inl, inr, ℕ, Bool, List, [], ◌∷◌, ◌++◌, refl, sym, subst, arith, append-nil, IsTrue}
 use Rattle.exam_workers.specs.Stations.{ServesLinks}
 use Rattle.exam_workers.proofs.Serving.{links_then}
 use Rattle.record_doors.specs.Doors.{Gives}

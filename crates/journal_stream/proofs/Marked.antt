@@ -1,12 +1,12 @@
 -- The old records of a journal that was moved, and the mark after them.
-use Rattle.std.proofs.Common.{◌≡◌, ◌≢◌, ◌⊎◌, inl, inr, ℕ, zero, suc, ◌+◌, ◌<◌, ◌≤◌, Bool, true, false, List, [], ◌∷◌, ◌++◌, length, take, drop, get_or, Option, Some, None, refl, sym, ◌∙◌, ap, subst, arith, w32, append_assoc, length-append, length-take, length-drop}
+use Rattle.std.proofs.Common.{◌≡◌, ◌⊎◌, inl, inr, ℕ, zero, suc, ◌+◌, ◌<◌, ◌≤◌, List, [], ◌∷◌, ◌++◌, length, take, drop, get_or, Option, Some, None, refl, sym, ◌∙◌, ap, subst, arith, w32, append_assoc, length-append, length-take, length-drop}
 use Rattle.std.specs.Prelude.{slice_get}
 use Rattle.std.specs.Int.{to_be_bytes, from_be_bytes}
 use Rattle.std.specs.List.{AllByRecursion}
 use Rattle.std.proofs.lemmas.Bool.{cases_lt, cases_Bool}
 use Rattle.std.proofs.lemmas.List.{take-append-le, take_all, take_at, take-take, get_or-take}
 use Rattle.std.proofs.lemmas.Nat.{from_be_bytes-to_be_bytes_4}
-use Rattle.answer_journal.specs.Frames.{FileHeader, IsPayload, frames, front, shadowj1, shadowj2}
+use Rattle.answer_journal.specs.Frames.{FileHeader, IsPayload, frames, shadowj1, shadowj2}
 use Rattle.answer_journal.specs.Payload.{end_of}
 use Rattle.answer_journal.specs.Reading.{length_at}
 use Rattle.answer_journal.specs.Standing.{IsEither}

@@ -1,14 +1,14 @@
 -- A journal's file of some version, as its server writes it.
-use Rattle.std.proofs.Common.{◌≡◌, ◌≢◌, inl, inr, ℕ, ◌≤◌, Bool, true, false, ◌==◌, if◌then◌else◌, List, [], ◌∷◌, ◌++◌, length, Option, Some, None, refl, sym, ◌∙◌, ap, subst, arith, append_assoc, eqb-true}
+use Rattle.std.proofs.Common.{◌≡◌, inl, inr, ℕ, Bool, true, false, ◌==◌, if◌then◌else◌, List, [], ◌∷◌, ◌++◌, Option, Some, None, refl, sym, ◌∙◌, ap, subst, arith, eqb-true}
 use Rattle.std.specs.List.{AllByRecursion}
 use Rattle.std.specs.Option.{option_map}
 use Rattle.std.proofs.lemmas.Bool.{cases_Bool}
 use Rattle.answer_journal.specs.FrameLaws.{fits-push}
-use Rattle.answer_journal.specs.Frames.{FileHeader, IsPayload, frames, front, shadowj1, shadowj2}
+use Rattle.answer_journal.specs.Frames.{IsPayload, frames, front, shadowj1, shadowj2}
 use Rattle.answer_journal.specs.Standing.{IsEither, moved_records}
 use Rattle.answer_journal.specs.Versions.{Counted, after_mark, counted, counted_from, header, is_mark, mark, second}
 use Rattle.answer_journal.proofs.VersionLaws.{from_second}
-use Rattle.journal_stream.specs.Served.{IsBegun, IsServed, before_mark, moved_of}
+use Rattle.journal_stream.specs.Served.{IsServed, before_mark, moved_of}
 use Rattle.journal_stream.proofs.Settled.{split_front}
 
 mark_is : (p : List ℕ) → is_mark p ≡ true → p ≡ mark

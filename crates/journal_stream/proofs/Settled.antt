@@ -117,7 +117,8 @@ module _ (pre : List ℕ) (start : ℕ) (size : length pre ≡ start) (ps : List
         rest_none ps k p (q ∷ qs) e l = absurd (omega (arith, ap length e, length-drop k ps, l))
 
 -- ---- a served file
--- the frames of these records after others, and a closed gate with anything after it; or theirs and those of one more, and a closed gate
+-- the frames of these records after others, and a closed gate with anything after it; or theirs and
+-- those of one more, and a closed gate
 abbrev pub IsShown : List ℕ → List (List ℕ) → List ℕ → List ℕ → Type 0
 IsShown pre records payload file =
     ((gate : ℕ) × (junk : List ℕ) × (gate ≢ 1) × (file ≡ pre ++ (frames records ++ gate ∷ junk)))

@@ -26,7 +26,8 @@ IsOldHead head (Payload size) =
     × (size ≡ 1 → get_or head 5 0 ≡ 8 → ⊥)
 IsOldHead head Unknown = ⊤
 
--- the gate of an old record of a journal that was moved, or of the mark after them, is at this place
+-- the gate of an old record of a journal that was moved, or of the mark after them, is at this
+-- place
 pub record IsOldGate (moved : Option (List (List ℕ))) (at : ℕ) : Type 0 where
   pub old : List (List ℕ)
   pub was : moved ≡ Some old

@@ -38,8 +38,8 @@ pub record IsBegun (moved : Option (List (List ℕ))) (records : List (List ℕ)
   pub one : IsPayload payload
   pub either : IsEither (header_of moved) (skipped_of moved ++ records) payload file
 
--- the file of a journal that was moved, which no server has opened yet. Nothing is settled: the gate
--- of its mark may not be on the disk
+-- the file of a journal that was moved, which no server has opened yet. Nothing is settled: the
+-- gate of its mark may not be on the disk
 pub record IsBeingMoved (moved : Option (List (List ℕ))) (settled : List (List ℕ)) (file : List ℕ)
     : Type 0 where
   pub old : List (List ℕ)

@@ -33,8 +33,8 @@ number_after number (Record payload) = number + 1
 number_after number Closed = number
 number_after number Unsettled = number
 
--- the file, the place of its first gate once that is found, whether a server has opened it for sure,
--- the number of the record that is read next, the place of its gate, and how many records are
+-- the file, the place of its first gate once that is found, whether a server has opened it for
+-- sure, the number of the record that is read next, the place of its gate, and how many records are
 -- settled for sure
 pub record TailState (F : Type 0) : Type 0 where
   pub file : F

@@ -1,9 +1,8 @@
 //! The door of a stream.
-ghost use Rattle.std.specs.Prelude.{◌≡◌, ◌≤◌, true, false, IsTrue};
+ghost use Rattle.std.specs.Prelude.{◌≡◌, ◌≤◌, true, false};
 ghost use Rattle.exam_edge.specs.Allowing.{AllowsAll};
 ghost use Rattle.exam_edge.specs.Faults.{Rose};
 ghost use Rattle.record_doors.specs.Doors.{TakesBack};
-ghost use Rattle.record_links.specs.Streaming.{IsGrown};
 ghost use Rattle.journal_stream.specs.Doors.{Continues, IsNextOf, IsStreamedDoor, IsStreamedLink};
 
 use exam_edge::Door;
@@ -83,9 +82,10 @@ fn stream_next<G: GrowingLog, L: Door, R: Wait>(
     }
 }
 
-/// Streams over the links of a door one after another. After a link that failed, or that the follower ended, and after an
-/// accept that failed, it takes the next one. It ends where the door gives no more links, or by a fault of the log, of the
-/// follower or of memory. No link of the door may be out before.
+/// Streams over the links of a door one after another. After a link that failed, or that the
+/// follower ended, and after an accept that failed, it takes the next one. It ends where the door
+/// gives no more links, or by a fault of the log, of the follower or of memory. No link of the door
+/// may be out before.
 pub fn stream_door<G: GrowingLog, L: Door, R: Wait>(
     rt: &R,
     alloc: Global,

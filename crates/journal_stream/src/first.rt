@@ -16,7 +16,8 @@ const SECOND_HEADER: [u8; 8] = [b'S', b'H', b'A', b'D', b'O', b'W', b'J', b'2'];
 /// The first bytes of a journal of the first version. One that was moved keeps them.
 const FIRST_HEADER: [u8; 8] = [b'S', b'H', b'A', b'D', b'O', b'W', b'J', b'1'];
 
-/// The byte of the payload that moves a journal: the records after it count, and those before it do not.
+/// The byte of the payload that moves a journal: the records after it count, and those before it do
+/// not.
 const MARK: u8 = 8;
 
 /// The place of the first gate of a file.
@@ -86,8 +87,8 @@ fn old_in(head: &[u8]) -> Old
     }
 }
 
-// The length of the payload after the gate at a place of a journal of the first version; none for the mark. A journal that was
-// not moved has a closed gate there at last, and is refused.
+// The length of the payload after the gate at a place of a journal of the first version; none for
+// the mark. A journal that was not moved has a closed gate there at last, and is refused.
 fn pass_old<F: GrowingFile>(file: &mut F, at: u64) -> Result<Option<usize>, AskFault>
     ensures passes { IfOk result (λ found. IsTrue (F.tells file.old)
         → IsOldGate (F.moved file.old) at → IsPassed (F.moved file.old) at found) }
@@ -140,8 +141,9 @@ fn find_mark<F: GrowingFile>(file: &mut F) -> Result<u64, AskFault>
     Err(AskFault::Disk)
 }
 
-/// The place of the gate of the first record that counts; none as long as the file has no whole header and gate. A file with
-/// another header is refused, and so is a journal of the first version that was not moved.
+/// The place of the gate of the first record that counts; none as long as the file has no whole
+/// header and gate. A file with another header is refused, and so is a journal of the first version
+/// that was not moved.
 pub fn find_first<F: GrowingFile>(file: &mut F) -> Result<Option<u64>, AskFault>
     ensures first { IfOk result (λ found. ForSome found (λ at. IsTrue (F.tells file.old)
         → at ≡ first_of (F.moved file.old))) }

@@ -11,12 +11,14 @@ use exam_edge::Failed;
 pub struct Waited {
     /// How many records the server has settled, as far as it was asked: at least so many.
     pub told: u64,
-    /// Whether the follower is to hear something meanwhile: a link on which nothing moves for a minute is given up.
+    /// Whether the follower is to hear something meanwhile: a link on which nothing moves for a
+    /// minute is given up.
     pub is_long: bool,
 }
 
-/// The file of a journal of the second version, or of one that was moved to it, which its server writes meanwhile. It is only
-/// read, and no read waits for the server. A read gives the bytes of one moment.
+/// The file of a journal of the second version, or of one that was moved to it, which its server
+/// writes meanwhile. It is only read, and no read waits for the server. A read gives the bytes of
+/// one moment.
 pub trait GrowingFile {
     ghost use Rattle.std.specs.Prelude.{ℕ, List, Bool, Option};
 
@@ -35,8 +37,8 @@ pub trait GrowingFile {
     /// How many calls have failed: a count that never falls, and stays at its last value.
     ghost faults: { Self → ℕ };
 
-    /// Reads bytes from a place on to the front of the buffer, and answers how many: fewer than there is room for only at the
-    /// end of the file.
+    /// Reads bytes from a place on to the front of the buffer, and answers how many: fewer than
+    /// there is room for only at the end of the file.
     fn read(&mut self, at: u64, buffer: &mut [u8]) -> Result<usize, Failed>
         ensures count { IfOk result (λ k. k ≤ length buffer.old) }
         ensures bytes { IfOk result (λ k. IsTrue (tells self.old)
@@ -64,7 +66,8 @@ pub trait GrowingFile {
         ensures tells { tells self.new ≡ tells self.old }
         ensures grows { faults self.old ≤ faults self.new };
 
-    /// Waits a while for more records. Whether one is there that is not known to be settled: then the server may be asked.
+    /// Waits a while for more records. Whether one is there that is not known to be settled: then
+    /// the server may be asked.
     fn wait(&mut self, is_unsettled: bool) -> Waited
         ensures told { IsTrue (tells self.old) → result.told ≤ length (settled self.new) }
         ensures grown { IsTrue (tells self.old) → IsGrown (settled self.old) (settled self.new) }

@@ -12,8 +12,9 @@ use record_links::{AskFault, Asked, GrowingLog};
 use std::alloc::Global;
 use std::marker::Model;
 
-/// The settled records of a journal's file, with the place of the one that is read next. A record counts as settled where a
-/// later one begins after its gate, since its server writes there only once it is; or where the server says so by its count.
+/// The settled records of a journal's file, with the place of the one that is read next. A record
+/// counts as settled where a later one begins after its gate, since its server writes there only
+/// once it is; or where the server says so by its count.
 pub struct JournalTail<F: GrowingFile> {
     file: F,
     /// The place of the gate of the first record that counts, once it is found.
@@ -97,7 +98,8 @@ impl<F: GrowingFile> JournalTail<F> {
         file
     }
 
-    // The place of the first gate, once it is found. If it is, a record may be there that is not known to be settled.
+    // The place of the first gate, once it is found. If it is, a record may be there that is not
+    // known to be settled.
     #[tactic(auto, using(crate::proofs::Placed::gate_on, crate::proofs::Placed::longer))]
     fn find(&mut self) -> Result<Option<u64>, AskFault>
         ensures found { IfOk result (λ found. self.new.found ≡ found) }
@@ -140,8 +142,9 @@ impl<F: GrowingFile> JournalTail<F> {
         self.start = Some(place);
     }
 
-    // Whether the first gate is known, and a server has opened the journal for sure. The header alone shows it, but of a
-    // journal that was moved: there it is shown once a record is settled for sure.
+    // Whether the first gate is known, and a server has opened the journal for sure. The header
+    // alone shows it, but of a journal that was moved: there it is shown once a record is settled
+    // for sure.
     fn begin(&mut self) -> Result<bool, AskFault>
         ensures begun { IfOk result (λ is. is ≡ self.new.begun) }
         ensures number { self.new.number ≡ self.old.number }
@@ -185,7 +188,8 @@ impl<F: GrowingFile> JournalTail<F> {
         self.number += 1;
     }
 
-    // Looks at the next record, and goes on after it where it is settled. Nothing is known before the first gate is.
+    // Looks at the next record, and goes on after it where it is settled. Nothing is known before
+    // the first gate is.
     #[tactic(auto, using(crate::proofs::Placed::gate_on, crate::proofs::Placed::longer))]
     fn step(&mut self, alloc: Global) -> Result<Look, AskFault>
         ensures finds { IfOk result (λ found. IsTrue (F.tells self.old.file)
@@ -217,8 +221,8 @@ impl<F: GrowingFile> JournalTail<F> {
         Ok(found)
     }
 
-    // Goes back, where the next record is past the one of a number: by one record, where that is enough and its place is known;
-    // else to the first one.
+    // Goes back, where the next record is past the one of a number: by one record, where that is
+    // enough and its place is known; else to the first one.
     fn go_back(&mut self, number: u64)
         ensures number { self.new.number ≤ number }
         ensures file { self.new.file ≡ self.old.file }
@@ -238,7 +242,8 @@ impl<F: GrowingFile> JournalTail<F> {
         }
     }
 
-    // Goes on to the record of a number, if each before it is settled. Otherwise the answer to that number.
+    // Goes on to the record of a number, if each before it is settled. Otherwise the answer to that
+    // number.
     fn go_to(&mut self, alloc: Global, number: u64) -> Result<Option<Asked>, AskFault>
         ensures gives { IfOk result (λ found. ForSome found (λ asked.
             IsTrue (F.tells self.old.file)

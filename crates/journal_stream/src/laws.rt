@@ -7,9 +7,10 @@ ghost use Rattle.answer_journal.specs.Standing.{IsAtRest, IsInDoubt, IsStaged, m
 ghost use Rattle.answer_journal.specs.Versions.{after_mark, counted, header, second};
 ghost use Rattle.journal_stream.specs.Served.{IsServed, moved_of};
 
-/// What a read gives of a journal whose records are of the second version, moved or not, is the file of its settled records: at
-/// rest, with a record staged behind its closed gate, and with a record in doubt, whichever of the files that a crash may leave
-/// it is. One record more leaves the old payloads as they are. Of a journal that is being moved nothing is settled.
+/// What a read gives of a journal whose records are of the second version, moved or not, is the
+/// file of its settled records: at rest, with a record staged behind its closed gate, and with a
+/// record in doubt, whichever of the files that a crash may leave it is. One record more leaves the
+/// old payloads as they are. Of a journal that is being moved nothing is settled.
 pub fn a_journal_is_served()
     ensures rest { (version : ℕ) (ps : List (List ℕ)) (content : List ℕ)
         (accounts : List Account) (size : ℕ)

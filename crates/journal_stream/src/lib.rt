@@ -1,5 +1,6 @@
-//! A journal that is shipped while a server writes it. Upward: each record that is given is the one of its number, and the
-//! server had settled it, so that it is on the disk for good. What is read, and the links to the follower, are traits.
+//! A journal that is shipped while a server writes it. Upward: each record that is given is the one
+//! of its number, and the server had settled it, so that it is on the disk for good. What is read,
+//! and the links to the follower, are traits.
 #![tactic(auto)]
 
 mod door;

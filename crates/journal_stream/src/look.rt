@@ -64,7 +64,8 @@ fn has_head(bytes: &[u8], size: usize) -> bool
     bytes[0] == OPEN && bytes[1..5] == (size as u32).to_be_bytes()[..]
 }
 
-// The record whose payload has so many bytes, where these bytes from its gate on have its frame and so many bytes more.
+// The record whose payload has so many bytes, where these bytes from its gate on have its frame and
+// so many bytes more.
 fn record_in(alloc: Global, bytes: &[u8], size: usize, more: usize) -> Result<Look, AllocError>
     requires some { 1 ≤ size }
     requires few { size ≤ 131072 }
@@ -78,8 +79,8 @@ fn record_in(alloc: Global, bytes: &[u8], size: usize, more: usize) -> Result<Lo
     Ok(Look::Record(payload))
 }
 
-// How many bytes are to be there after the payload of a record, unless it is known to be settled: the next gate, and a byte of
-// the next record.
+// How many bytes are to be there after the payload of a record, unless it is known to be settled:
+// the next gate, and a byte of the next record.
 fn bytes_after(is_told: bool) -> usize
     ensures why { (is_told ≡ true) ⊎ (result ≡ 2) }
     ensures few { result ≤ 2 }
@@ -87,8 +88,9 @@ fn bytes_after(is_told: bool) -> usize
     if is_told { 0 } else { 2 }
 }
 
-// Reads the frame of a payload of so many bytes after the gate at a place into a buffer. It is that of a settled record where
-// the record is known to be settled, or where the next record begins after its gate.
+// Reads the frame of a payload of so many bytes after the gate at a place into a buffer. It is that
+// of a settled record where the record is known to be settled, or where the next record begins
+// after its gate.
 fn read_frame<F: GrowingFile>(
     alloc: Global,
     file: &mut F,

@@ -7,7 +7,8 @@ use Rattle.certificate_model.specs.Paths.{Path, Under}
 use Rattle.certificate_model.specs.Relaxed.{Multipliers, IsRelaxedMaximum}
 use Rattle.certificate_model.specs.Counting.{length_impossible}
 
--- the number is the relaxed maximum; there is none exactly where the length is impossible by counting
+-- the number is the relaxed maximum; there is none exactly where the length is impossible by
+-- counting
 abbrev pub IsBound : Problem → Path → Multipliers → Bool → Option ℤ → Type 0
 IsBound P p v ray None = IsTrue (length_impossible P p)
 IsBound P p v ray (Some r) = IsRelaxedMaximum P p v ray r

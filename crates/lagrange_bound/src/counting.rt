@@ -42,7 +42,8 @@ pub fn bounds_of(row: &Row) -> (u32, u32)
     (lower_bound(row), upper_bound(row))
 }
 
-/// Whether what is had at least exceeds the upper bound, or what is had at most is below a lower bound that counts.
+/// Whether what is had at least exceeds the upper bound, or what is had at most is below a lower
+/// bound that counts.
 fn is_outside(bounds: (u32, u32), least: u32, most: u32, counts: bool) -> bool
     ensures { result ≡ (nat_lt bounds.1 least || (counts && nat_lt most bounds.0)) }
 {
@@ -50,7 +51,8 @@ fn is_outside(bounds: (u32, u32), least: u32, most: u32, counts: bool) -> bool
     high < least || counts && most < low
 }
 
-/// Whether what is taken exceeds the row's upper bound, or what is taken or free is below its lower bound.
+/// Whether what is taken exceeds the row's upper bound, or what is taken or free is below its lower
+/// bound.
 fn row_impossible(problem: &Problem, cut: &Cut, row: &Row) -> bool
     requires { IsRow problem.now.bank.now row.now }
     ensures { (p : Path) → IsCutOf (problem_of problem.now) p cut.now →
@@ -125,8 +127,8 @@ fn first_stimulus(problem: &Problem, cut: &Cut) -> Option<u8>
     None
 }
 
-/// The lowest row that is impossible by counting, by number: 0 is the length, then come the rows of the plan and the
-/// stimuli; None exactly where there is none. Takes no memory.
+/// The lowest row that is impossible by counting, by number: 0 is the length, then come the rows of
+/// the plan and the stimuli; None exactly where there is none. Takes no memory.
 pub fn impossible(problem: &Problem, cut: &Cut) -> Option<u8>
     requires well_made { IsWellMade (problem_of problem.now) }
     requires cut { IsCut (problem_of problem.now) cut.now }

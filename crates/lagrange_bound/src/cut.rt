@@ -13,8 +13,9 @@ use bank_tables::ItemSet;
 use constraint_model::Problem;
 use constraint_model::counts::stimuli_used;
 
-/// The items taken, out and free on a path, and the numbers of the stimuli chosen and open; the other stimuli are dropped
-/// (branch and bound; Land and Doig, An Automatic Method of Solving Discrete Programming Problems, 1960).
+/// The items taken, out and free on a path, and the numbers of the stimuli chosen and open; the
+/// other stimuli are dropped (branch and bound; Land and Doig, An Automatic Method of Solving
+/// Discrete Programming Problems, 1960).
 #[derive(Clone, Copy, Debug, PartialEq, Eq)]
 pub struct Cut {
     pub taken: ItemSet,
@@ -60,7 +61,8 @@ impl Cut {
         }
     }
 
-    /// The state where one more item is out: its stimulus is open no more where that was its last free item.
+    /// The state where one more item is out: its stimulus is open no more where that was its last
+    /// free item.
     fn with_out(&self, problem: &Problem, item: u16) -> Cut
         requires well_made { IsWellMade (problem_of problem.now) }
         requires cut { IsCut (problem_of problem.now) self.now }

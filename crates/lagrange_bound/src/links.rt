@@ -1,4 +1,5 @@
-//! The links of items to their stimuli: what free items of open stimuli weigh above the cap of a vector.
+//! The links of items to their stimuli: what free items of open stimuli weigh above the cap of a
+//! vector.
 
 ghost use Rattle.std.specs.Prelude.{◌≡◌, ℕ, ◌==◌, ◌<◌, ◌≤◌, IfSome, Some, slice_index, slice_set, ◌+ℤ◌, ◌-ℤ◌};
 ghost use Rattle.std.specs.Option.{ForSome};
@@ -16,7 +17,8 @@ use bank_tables::Bank;
 use bank_tables::sides::{CAP_HIGH, CAP_LOW};
 use constraint_model::prices::price;
 
-/// The cap of a vector, by the multipliers of its sides; None where it names neither side of the cap.
+/// The cap of a vector, by the multipliers of its sides; None where it names neither side of the
+/// cap.
 pub fn cap_of(sides: &[u32; 386]) -> Option<i64>
     requires { AreMultipliers (slice_index sides.now) }
     ensures value { (v : Multipliers) → IsVector 0 v → slice_index sides.now ≡ multiplier v →
@@ -48,7 +50,8 @@ fn is_linked(bank: &Bank, cut: &Cut, item: u16) -> bool
     stimulus != 0 && (cut.free.has(item) && cut.opened.has(stimulus as u16))
 }
 
-/// How far the weight of an item is above the cap, where it is a free item of an open stimulus; else 0.
+/// How far the weight of an item is above the cap, where it is a free item of an open stimulus;
+/// else 0.
 fn link(bank: &Bank, cut: &Cut, cap: i64, weights: &[i64; 512], item: u16) -> i64
     requires cap { IsWithin 16777216 cap }
     requires item { item < size bank.now }
@@ -115,8 +118,8 @@ fn sums_by_stimulus(bank: &Bank, numbers: &[i64; 512]) -> [i64; 65]
     sums
 }
 
-/// Lowers the weights of free items of open stimuli to the cap, where there is one, and gives what those of each stimulus had
-/// above it in all.
+/// Lowers the weights of free items of open stimuli to the cap, where there is one, and gives what
+/// those of each stimulus had above it in all.
 pub fn cap_weights(bank: &Bank, cut: &Cut, cap: Option<i64>, weights: &mut [i64; 512]) -> [i64; 65]
     requires cap { ForSome cap (IsWithin 16777216) }
     requires weights { (i : ℕ) → i < size bank.now → IsWithin item_top (at weights.old i) }

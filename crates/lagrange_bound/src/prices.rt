@@ -15,7 +15,8 @@ use constraint_model::prices::{bounds_price, price};
 use constraint_model::{Problem, Row};
 use proof_tree::Vector;
 
-/// The multiplier of each side, the last two of which are those of the cap; a side that the vector doesn't name has 0.
+/// The multiplier of each side, the last two of which are those of the cap; a side that the vector
+/// doesn't name has 0.
 pub fn sides_of(vector: &Vector) -> [u32; 386]
     requires { All (λ pair. pair.0 < 386) vector.now }
     ensures value { slice_index result ≡ multiplier vector.now }

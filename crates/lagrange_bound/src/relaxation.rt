@@ -46,8 +46,8 @@ fn stimulus_weight(problem: &Problem, sides: &[u32; 386], rows: i64, which: u16)
     bounds_price(sides, low_side, (bound.low, bound.high)) + rows
 }
 
-/// What a stimulus of the weight adds: the weight if it is chosen; if it is open, the greater of 0 and the weight with what its
-/// items have above the cap.
+/// What a stimulus of the weight adds: the weight if it is chosen; if it is open, the greater of 0
+/// and the weight with what its items have above the cap.
 fn gain_of(cut: &Cut, which: u16, weight: i64, excesses: &[i64; 65]) -> i64
     requires which { which ≤ 64 }
     requires weight { IsWithin stimulus_top weight }
@@ -89,7 +89,8 @@ fn gains(problem: &Problem, cut: &Cut, sides: &[u32; 386], excesses: &[i64; 65])
     sum
 }
 
-/// The constant, the weights of the items taken and of the greatest free ones that fill the test, and what the stimuli add.
+/// The constant, the weights of the items taken and of the greatest free ones that fill the test,
+/// and what the stimuli add.
 fn maximum(problem: &Problem, cut: &Cut, vector: &Vector, ray: bool, wanted: u32) -> i64
     requires well_made { IsWellMade (problem_of problem.now) }
     requires sides { NamesOnlySides (problem_of problem.now) vector.now }
@@ -109,8 +110,9 @@ fn maximum(problem: &Problem, cut: &Cut, vector: &Vector, ray: bool, wanted: u32
     rows_constant(problem, &sides) + ((taken + filled) + gains(problem, cut, &sides, &excesses))
 }
 
-/// The relaxed maximum of a vector on a path, or of its ray: at least 256 times the objective of each form on the path
-/// (at least 0 for a ray); None exactly where the length is impossible by counting. Takes no memory.
+/// The relaxed maximum of a vector on a path, or of its ray: at least 256 times the objective of
+/// each form on the path (at least 0 for a ray); None exactly where the length is impossible by
+/// counting. Takes no memory.
 pub fn bound(problem: &Problem, cut: &Cut, vector: &Vector, ray: bool) -> Option<i64>
     requires well_made { IsWellMade (problem_of problem.now) }
     requires cut { IsCut (problem_of problem.now) cut.now }

@@ -1,4 +1,5 @@
-//! The sum of the greatest of some numbers: k times a threshold between them and the rest, and what they exceed it by.
+//! The sum of the greatest of some numbers: k times a threshold between them and the rest, and what
+//! they exceed it by.
 
 ghost use Rattle.std.specs.Prelude.{◌≡◌, ℕ, ◌+◌, ◌*◌, ◌<◌, ◌≤◌, pos, neg_ℤ, ◌+ℤ◌, ◌-ℤ◌, ◌*ℤ◌, ◌≤ℤ◌};
 ghost use Rattle.bank_tables.specs.Sums.{total_z};
@@ -41,7 +42,8 @@ fn greatest(weights: &[i64; 512], n: u16) -> i64
     most
 }
 
-/// A number from the least weight to the greatest number such that those below it are below the least weight.
+/// A number from the least weight to the greatest number such that those below it are below the
+/// least weight.
 fn least(weights: &[i64; 512], n: u16, greatest: i64) -> i64
     requires few { n ≤ 512 }
     requires within { neg_ℤ (pos item_top) ≤ℤ greatest }
@@ -71,7 +73,8 @@ fn gap_between(low: i64, high: i64) -> u64
     (high - low) as u64 + 1
 }
 
-/// A threshold of the k greatest of the first n numbers, by halving the range from `low` on that holds one.
+/// A threshold of the k greatest of the first n numbers, by halving the range from `low` on that
+/// holds one.
 fn threshold_from(weights: &[i64; 512], n: u16, k: u32, mut low: i64, mut gap: u64) -> i64
     requires n { n ≤ 512 }
     requires low { neg_ℤ (pos item_top) ≤ℤ low }

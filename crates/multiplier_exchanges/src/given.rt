@@ -18,8 +18,9 @@ pub struct Columns {
     pub gains: Vec<i64>,
 }
 
-/// A line that is given: its bounds (without an upper one: none), what it is measured by, at least 1, and its cells, each a column
-/// and the amount that one of it adds to the line, at most 65,536 or so.
+/// A line that is given: its bounds (without an upper one: none), what it is measured by, at least
+/// 1, and its cells, each a column and the amount that one of it adds to the line, at most 65,536
+/// or so.
 #[derive(Clone, Copy)]
 pub struct Given<'a> {
     pub low: i64,
@@ -81,8 +82,8 @@ impl Relaxation {
         Ok(())
     }
 
-    /// Links columns of items to groups, one list of columns for each group, and ends the relaxation: no line comes after it. A
-    /// linked item is taken as far as its group.
+    /// Links columns of items to groups, one list of columns for each group, and ends the
+    /// relaxation: no line comes after it. A linked item is taken as far as its group.
     pub fn end_given(&mut self, alloc: Global, links: &[Vec<u16>]) -> Result<(), Memory> {
         let count = self.items.len();
         self.links.resize(count, NO_SIDE)?;

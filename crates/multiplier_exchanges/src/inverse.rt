@@ -27,7 +27,8 @@ fn row_at(inverse: &[i64], size: usize, place: usize) -> &[i64] {
     inverse.get(start..end).unwrap_or(&[])
 }
 
-/// The inverse after the column at a place is replaced by another one, `column` being that times the inverse.
+/// The inverse after the column at a place is replaced by another one, `column` being that times
+/// the inverse.
 pub(crate) fn replace_column(
     inverse: &mut [i64],
     size: usize,
@@ -61,7 +62,8 @@ fn replace_in_row(row: &mut [i64], place: usize, line: &[i64]) {
     }
 }
 
-/// The inverse after the line at a place is replaced by another one, `line` being the inverse times that.
+/// The inverse after the line at a place is replaced by another one, `line` being the inverse times
+/// that.
 pub(crate) fn replace_line(inverse: &mut [i64], size: usize, place: usize, line: &[i64]) {
     for row in inverse.chunks_mut(size.max(1)) {
         replace_in_row(row, place, line);
@@ -87,8 +89,8 @@ fn push_last(grown: &mut Vec<i64>, line: &[i64], pivot: i64) -> Result<(), Memor
     Ok(())
 }
 
-/// The inverse with one line and one column more; `column` and `line` are these times the inverse, and `pivot` is their cell
-/// less what the others make up for.
+/// The inverse with one line and one column more; `column` and `line` are these times the inverse,
+/// and `pivot` is their cell less what the others make up for.
 pub(crate) fn grow(
     inverse: &[i64],
     size: usize,

@@ -27,8 +27,8 @@ pub(crate) struct Leaver {
     pub out: i64,
 }
 
-/// How far a value is from where the path lets its column be, and on which side; `most` is 1 or, for a linked item, how far
-/// its stimulus is taken.
+/// How far a value is from where the path lets its column be, and on which side; `most` is 1 or,
+/// for a linked item, how far its stimulus is taken.
 fn column_out(hold: Hold, value: i64, most: i64) -> (i64, i64) {
     let (low, high) = match hold {
         Hold::Free => (0, most),

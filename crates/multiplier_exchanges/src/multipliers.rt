@@ -100,7 +100,8 @@ impl Vertex {
     }
 }
 
-/// The vector at a length from a vertex in the direction of its last line search, or that direction alone.
+/// The vector at a length from a vertex in the direction of its last line search, or that direction
+/// alone.
 pub fn vector_towards(
     alloc: Global,
     relaxation: &Relaxation,

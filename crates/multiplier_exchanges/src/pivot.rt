@@ -125,7 +125,8 @@ impl Vertex {
         pivot >> relaxation.fine.min(16)
     }
 
-    /// Lets a column that was basic stand, at the bound that the sign of its weight shows, also where that is 0.
+    /// Lets a column that was basic stand, at the bound that the sign of its weight shows, also
+    /// where that is 0.
     fn leave(&mut self, relaxation: &Relaxation, column: u16, step: i64, sign: i64) {
         let others = self
             .weight(relaxation, column)
@@ -145,7 +146,8 @@ impl Vertex {
         }
     }
 
-    /// Makes a column basic, whose row of the inverse is at a place. An item that followed a basic stimulus is told from it.
+    /// Makes a column basic, whose row of the inverse is at a place. An item that followed a basic
+    /// stimulus is told from it.
     fn enter(&mut self, relaxation: &Relaxation, column: u16, place: usize) {
         if self.stand(column) == Stand::One && self.follows_basic(relaxation, column) {
             self.add_row_of_stimulus(relaxation, column, place, 1);
@@ -158,7 +160,8 @@ impl Vertex {
         }
     }
 
-    /// Adds the row of the inverse of an item's basic stimulus, times a sign, to the row at a place.
+    /// Adds the row of the inverse of an item's basic stimulus, times a sign, to the row at a
+    /// place.
     fn add_row_of_stimulus(
         &mut self,
         relaxation: &Relaxation,

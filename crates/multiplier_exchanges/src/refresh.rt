@@ -1,4 +1,5 @@
-//! The inverse, the multipliers and the weights once more, without the errors of rounding that exchanges gather.
+//! The inverse, the multipliers and the weights once more, without the errors of rounding that
+//! exchanges gather.
 
 use crate::numbers::{ONE, add_at, at, product};
 use crate::relaxation::{Cell, Relaxation};
@@ -118,7 +119,8 @@ impl Vertex {
         }
     }
 
-    /// One step of Newton's for the inverse (Schulz, Iterative Berechnung der reziproken Matrix, 1933).
+    /// One step of Newton's for the inverse (Schulz, Iterative Berechnung der reziproken Matrix,
+    /// 1933).
     fn correct_inverse(&mut self, room: &mut Workspace) -> Result<(), Memory> {
         let size = self.tight.len();
         room.column.clear();
@@ -163,8 +165,8 @@ impl Vertex {
         weight
     }
 
-    /// The weight of a basic column by the multipliers, which is to be 0; that of a stimulus with those of the items that
-    /// follow it.
+    /// The weight of a basic column by the multipliers, which is to be 0; that of a stimulus with
+    /// those of the items that follow it.
     fn residue(&self, relaxation: &Relaxation, column: u16, prices: &[i64]) -> i64 {
         let mut weight = self.weight_of(relaxation, column, prices);
         for item in relaxation.linked(column) {
@@ -198,7 +200,8 @@ impl Vertex {
         }
     }
 
-    /// The multiplier of each line, corrected by what the weights of the basic columns lack to be 0.
+    /// The multiplier of each line, corrected by what the weights of the basic columns lack to be
+    /// 0.
     pub(crate) fn exact_prices(
         &self,
         relaxation: &Relaxation,

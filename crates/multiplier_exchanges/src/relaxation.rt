@@ -26,8 +26,8 @@ pub(crate) struct Cell {
 /// The number of a side that is none.
 pub(crate) const NO_SIDE: u16 = 65_535;
 
-/// A line: its bounds, what it is measured by, the sides of its positive and of its negative multiplier, and where its cells
-/// begin and end.
+/// A line: its bounds, what it is measured by, the sides of its positive and of its negative
+/// multiplier, and where its cells begin and end.
 #[derive(Clone, Copy)]
 pub(crate) struct Line {
     pub low: i64,
@@ -57,7 +57,8 @@ pub struct Relaxation {
     pub(crate) items: Vec<u16>,
     /// The numbers of the stimuli that are columns, after the items.
     pub(crate) stimuli: Vec<u8>,
-    /// For each item that is a column the column of its stimulus, where that is open at the root; else `NO_SIDE`.
+    /// For each item that is a column the column of its stimulus, where that is open at the root;
+    /// else `NO_SIDE`.
     pub(crate) links: Vec<u16>,
     /// The columns of the items linked to each stimulus, one stimulus after the other.
     pub(crate) linked: Vec<u16>,
@@ -96,7 +97,8 @@ fn gains_of(problem: &Problem, items: &ItemSet) -> i64 {
     sum
 }
 
-/// The set of items that a row counts, and the quantity that it sums over them, if it does; none for a row on stimuli.
+/// The set of items that a row counts, and the quantity that it sums over them, if it does; none
+/// for a row on stimuli.
 fn counted(row: &Row) -> (ItemSet, Option<u8>) {
     match row {
         Row::Count { set, .. } => (*set, None),
@@ -193,7 +195,8 @@ impl Relaxation {
         }
     }
 
-    /// The column of the stimulus to which the item of a column is linked: it is chosen only where that is.
+    /// The column of the stimulus to which the item of a column is linked: it is chosen only where
+    /// that is.
     #[inline]
     pub(crate) fn link(&self, column: u16) -> Option<u16> {
         match self.links.get(column as usize) {
@@ -325,7 +328,8 @@ impl Relaxation {
         (sum, count)
     }
 
-    /// Adds the line of a row, its cells from a place on; none where it is met by whatever is chosen.
+    /// Adds the line of a row, its cells from a place on; none where it is met by whatever is
+    /// chosen.
     fn end_row(&mut self, row: u8, start: usize, low: i64, high: i64) -> Result<(), Memory> {
         let (sum, count) = self.sum_from(start);
         if count == 0 || low <= 0 && high >= sum {
@@ -402,7 +406,8 @@ impl Relaxation {
         Ok(())
     }
 
-    /// Adds the line of one bound of a stimulus, the lower one for the sign 1 and the upper one for -1.
+    /// Adds the line of one bound of a stimulus, the lower one for the sign 1 and the upper one for
+    /// -1.
     fn add_bound(
         &mut self,
         bank: &Bank,
@@ -430,8 +435,8 @@ impl Relaxation {
         Ok(())
     }
 
-    /// Adds the lines of both bounds of a stimulus, whose column is at a place; `members` are its free items, and so many of its
-    /// items are taken.
+    /// Adds the lines of both bounds of a stimulus, whose column is at a place; `members` are its
+    /// free items, and so many of its items are taken.
     fn add_bounds(
         &mut self,
         problem: &Problem,
@@ -536,7 +541,8 @@ impl Relaxation {
         Ok(())
     }
 
-    /// Copies the cells of a line to those of their columns; `ends` are the ends of what is there of each.
+    /// Copies the cells of a line to those of their columns; `ends` are the ends of what is there
+    /// of each.
     fn copy_line(&mut self, line: u16, start: usize, end: usize, ends: &mut [usize]) {
         for cell in self.line_cells.as_slice().get(start..end).unwrap_or(&[]) {
             if let Some(at) = ends.get_mut(cell.place as usize) {

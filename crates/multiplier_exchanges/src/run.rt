@@ -22,7 +22,8 @@ pub enum Reached {
 }
 
 impl Vertex {
-    /// At most so many exchanges, until the bound is at most the target. A ray is believed only of a fresh inverse.
+    /// At most so many exchanges, until the bound is at most the target. A ray is believed only of
+    /// a fresh inverse.
     pub fn run(
         &mut self,
         relaxation: &Relaxation,

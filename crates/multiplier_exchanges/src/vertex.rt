@@ -23,9 +23,9 @@ pub(crate) enum Hold {
     One,
 }
 
-/// A column: its reduced weight (0 for an item that is basic), where it stands, and where the path holds it. A linked item
-/// that stands at 1 is taken as far as its stimulus is. The weight of a stimulus is without those of its items. Linked are such
-/// items and their stimuli.
+/// A column: its reduced weight (0 for an item that is basic), where it stands, and where the path
+/// holds it. A linked item that stands at 1 is taken as far as its stimulus is. The weight of a
+/// stimulus is without those of its items. Linked are such items and their stimuli.
 #[derive(Clone, Copy)]
 pub(crate) struct Column {
     pub weight: i64,
@@ -136,7 +136,8 @@ impl Vertex {
         }
     }
 
-    /// Whether a column that stands at 1 counts as a whole: a linked item does only where its stimulus stands at 1.
+    /// Whether a column that stands at 1 counts as a whole: a linked item does only where its
+    /// stimulus stands at 1.
     #[inline]
     fn counts(&self, relaxation: &Relaxation, column: u16) -> bool {
         match relaxation.link(column) {
@@ -298,8 +299,8 @@ impl Vertex {
         Ok(())
     }
 
-    /// The vertex of the items of the greatest gains, as many as the length needs. The length is tight, and the last of them
-    /// is basic.
+    /// The vertex of the items of the greatest gains, as many as the length needs. The length is
+    /// tight, and the last of them is basic.
     pub fn first(
         alloc: Global,
         relaxation: &Relaxation,

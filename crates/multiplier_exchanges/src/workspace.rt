@@ -3,8 +3,8 @@
 use crate::breaks::{Break, Event};
 use std::alloc::Global;
 
-/// A direction of the multipliers: what is added to that of each tight line, the line that is to be tight, with the sign of
-/// its multiplier, and what is added to the reduced weight of each column.
+/// A direction of the multipliers: what is added to that of each tight line, the line that is to be
+/// tight, with the sign of its multiplier, and what is added to the reduced weight of each column.
 #[derive(Drop)]
 pub(crate) struct Direction {
     pub prices: Vec<i64>,

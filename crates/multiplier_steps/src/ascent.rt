@@ -37,9 +37,9 @@ fn is_no_higher(problem: &Problem, cut: &Cut, from: &Vector, to: &Vector, ray: b
     is_at_most(bound(problem, cut, to, ray), bound(problem, cut, from, ray))
 }
 
-/// Whole-number subgradient steps from a vector (Held, Wolfe and Crowder, Validation of Subgradient Optimization, 1974).
-/// The vector is valid for the plan; nothing else is promised. Takes a third less time than `improve`, and is enough for a
-/// search that computes each bound that it relies on.
+/// Whole-number subgradient steps from a vector (Held, Wolfe and Crowder, Validation of Subgradient
+/// Optimization, 1974). The vector is valid for the plan; nothing else is promised. Takes a third
+/// less time than `improve`, and is enough for a search that computes each bound that it relies on.
 pub fn climb(
     alloc: Global,
     problem: &Problem,
@@ -72,8 +72,9 @@ pub fn climb(
     })
 }
 
-/// A vector whose bound on the path is at most that of `from`, after at most so many of these steps towards the target. They
-/// run, and where they end no lower the vector is `from` again: that they gain is not promised.
+/// A vector whose bound on the path is at most that of `from`, after at most so many of these steps
+/// towards the target. They run, and where they end no lower the vector is `from` again: that they
+/// gain is not promised.
 pub fn improve(
     alloc: Global,
     problem: &Problem,

@@ -3,8 +3,8 @@
 //!
 //! A whole journal is opened by twelve calls and three for each record: sync, length, header, each
 //! gate, the last one twice, two for each record; then the last open gate and the closed one are
-//! read and written again, sync, cut, sync. One of no record is made anew by six: sync, length, cut,
-//! sync, write, sync.
+//! read and written again, sync, cut, sync. One of no record is made anew by six: sync, length,
+//! cut, sync, write, sync.
 
 use crate::expected::{expect_calls, expect_entries};
 use crate::files::{ANSWERED, CLOSED, EMPTY, Parts, SERVED, STARTED, joined};

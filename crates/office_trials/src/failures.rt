@@ -57,9 +57,9 @@ type Failing = (
 
 /// Opening is eighteen calls, and the first answer is calls 18 to 21: write, sync, open the gate,
 /// sync. If call 19 fails, the record is on the disk after a closed gate, and the history does not
-/// have it: the next call of the office drops it by five calls (read the gate, write it again, sync,
-/// cut, sync). If call 21 fails, the gate is open: the next call of the office keeps the record by
-/// three (read the gate, write it again, sync).
+/// have it: the next call of the office drops it by five calls (read the gate, write it again,
+/// sync, cut, sync). If call 21 fails, the gate is open: the next call of the office keeps the
+/// record by three (read the gate, write it again, sync).
 const FAILING: [Failing; 14] = [
     (&[19], &[FAILS], ONE_SERVED, (20, 1), STAGED),
     (&[19], &[FAILS, ADDS], ONE_ANSWERED, (29, 1), ANSWERED),
@@ -163,9 +163,9 @@ fn answers_in_which_a_call_fails(rt: HostRuntime) {
 }
 
 /// A journal of two records with two bytes after its last gate is opened by 19 calls: sync, length,
-/// header, each gate, the last one twice, two for each record; then the bytes are put aside, the last
-/// open gate and the closed one are read and written again, sync, cut, sync. The one of this number
-/// fails; 19 is none of them.
+/// header, each gate, the last one twice, two for each record; then the bytes are put aside, the
+/// last open gate and the closed one are read and written again, sync, cut, sync. The one of this
+/// number fails; 19 is none of them.
 fn expect_failed_opening<R: Abort>(rt: &R, alloc: Global, fail: u64) {
     let trial = Trial {
         numbers: WORKED,

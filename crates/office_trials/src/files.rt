@@ -41,8 +41,8 @@ pub(crate) const TOO_HIGH: &[u8] = &[1, 0, 1, 1, 0, 1, 0, 3, 0, 0, 0x10, 0, 3, 0
 /// An open gate and the length 8. Step 0 of session 0 is answered with response 1.
 pub(crate) const ANSWER: &[u8] = &[1, 0, 0, 0, 8, 4, 0, 0, 0, 0, 0, 0, 1];
 
-/// An open gate and the length 13. Eligibility is set aside for session 0 at step 1 in band 0, since
-/// there is no form; the tree is one open leaf.
+/// An open gate and the length 13. Eligibility is set aside for session 0 at step 1 in band 0,
+/// since there is no form; the tree is one open leaf.
 pub(crate) const SET_ASIDE: &[u8] = &[1, 0, 0, 0, 13, 7, 0, 0, 0, 0, 0, 1, 0, 0, 0, 1, 0, 7];
 
 /// An open gate and the length 5. Session 0 is closed.

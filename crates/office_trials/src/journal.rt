@@ -1,6 +1,6 @@
-//! The journal: what is found after a call of the disk has failed, after a crash, and in a damaged file. What is expected
-//! was worked out by hand from the format: header `SHADOWJ2`, then a gate at place 8, and after each open gate a length of
-//! four bytes, the payload and the next gate.
+//! The journal: what is found after a call of the disk has failed, after a crash, and in a damaged
+//! file. What is expected was worked out by hand from the format: header `SHADOWJ2`, then a gate at
+//! place 8, and after each open gate a length of four bytes, the payload and the next gate.
 
 ghost use Rattle.exam_edge.specs.MemoryDisk.{accounts_of};
 ghost use Rattle.answer_journal.specs.Frames.{IsPayload};

@@ -1,8 +1,8 @@
-//! Tests of the office and of its journal over a disk in memory. The journal: tables of stops and of
-//! failing calls, and files of each version. The office: what is found after a call of the disk has
-//! failed and after a crash at each moment, each refusal with its value, and each fault of a file. A
-//! migration: the same. All: what is on a device after a sync that failed and dropped what it was to
-//! bring there. It promises nothing upward and holds no code of the product.
+//! Tests of the office and of its journal over a disk in memory. The journal: tables of stops and
+//! of failing calls, and files of each version. The office: what is found after a call of the disk
+//! has failed and after a crash at each moment, each refusal with its value, and each fault of a
+//! file. A migration: the same. All: what is on a device after a sync that failed and dropped what
+//! it was to bring there. It promises nothing upward and holds no code of the product.
 #![tactic(auto)]
 
 #[cfg(test)]

@@ -217,7 +217,8 @@ const AGAIN: [Step; 3] = [
     (Ask::Without(72, &[4]), Answer::At(2, FIRST, false)),
 ];
 
-/// Of the closed session: item 1 was shown, item 2 is of its list, and each other item was eligible.
+/// Of the closed session: item 1 was shown, item 2 is of its list, and each other item was
+/// eligible.
 const COUNTS: [Counts; 6] = [
     Counts { alpha: 0, eps: 1 },
     Counts { alpha: 1, eps: 1 },
@@ -244,8 +245,8 @@ fn lists_of_retakers(rt: HostRuntime) {
     expect_equal(&rt, &left.as_slice(), &file.as_slice());
 }
 
-/// With two sessions allowed the number of sessions is tested before a form is needed, and after the
-/// list.
+/// With two sessions allowed the number of sessions is tested before a form is needed, and after
+/// the list.
 const FULL: [Step; 4] = [
     (Ask::Begin(70), Answer::At(0, FIRST, true)),
     (Ask::Without(71, &[2]), Answer::At(1, ONE, true)),
@@ -302,9 +303,9 @@ fn draft_of_nine<R: Abort>(rt: &R, alloc: Global, nodes: u32) -> Draft {
     draft
 }
 
-/// Items 0 to 5 alone have no form, since it would have at most one of each three. One node does not
-/// show that: half of each item meets each row, and the halves are three items. A whole tree of six
-/// items has at most 127 nodes.
+/// Items 0 to 5 alone have no form, since it would have at most one of each three. One node does
+/// not show that: half of each item meets each row, and the halves are three items. A whole tree of
+/// six items has at most 127 nodes.
 const UNKNOWN: [Step; 1] = [(
     Ask::Without(1, &[6, 7, 8]),
     Answer::Refused(Refusal::NoneFound),

@@ -7,9 +7,9 @@ ghost use Rattle.std.specs.Prelude.{◌≡◌, ◌≤◌, [], false, OnErr};
 use exam_edge::{Disk, Failed};
 use std::alloc::Global;
 
-/// What a read gives, what is on the device, and what a sync is to bring there: the ranges written since the last one, each
-/// from its first place to the one after its last, and whether the length was changed. A sync that fails forgets both, as a
-/// host does: the next one succeeds without them.
+/// What a read gives, what is on the device, and what a sync is to bring there: the ranges written
+/// since the last one, each from its first place to the one after its last, and whether the length
+/// was changed. A sync that fails forgets both, as a host does: the next one succeeds without them.
 #[derive(Drop)]
 pub(crate) struct LossyDisk {
     pub shown: Vec<u8>,
@@ -21,7 +21,8 @@ pub(crate) struct LossyDisk {
     faults: u64,
 }
 
-// Writes bytes at a place, over what is there and after the end. Bytes between the end and the place are 0.
+// Writes bytes at a place, over what is there and after the end. Bytes between the end and the
+// place are 0.
 fn put(file: &mut Vec<u8>, at: usize, bytes: &[u8]) -> Option<()> {
     let end = at.checked_add(bytes.len())?;
     if file.len() < end {

@@ -1,5 +1,5 @@
-//! A migration over a disk whose syncs that fail drop what they were to bring to the device: the gate that a migration opens
-//! at the end may read open, and be closed on the device.
+//! A migration over a disk whose syncs that fail drop what they were to bring to the device: the
+//! gate that a migration opens at the end may read open, and be closed on the device.
 
 ghost use Rattle.form_model.specs.Validity.{IsPlanFor};
 

@@ -1,5 +1,5 @@
-//! Calls of an office over a disk whose syncs that fail drop what they were to bring to the device; then a crash, and an
-//! opening. What was acknowledged is on the device.
+//! Calls of an office over a disk whose syncs that fail drop what they were to bring to the device;
+//! then a crash, and an opening. What was acknowledged is on the device.
 
 ghost use Rattle.bank_tables.specs.Items.{has};
 ghost use Rattle.form_model.specs.Forms.{Meets};
@@ -19,8 +19,9 @@ use std::alloc::Global;
 use std::process::Abort;
 use trial_cases::bank_a;
 
-/// Calls over a file, each of which adds an entry; how many entries the history has then; and which calls of the disk fail.
-/// After a call of the office that failed, the office goes on, or its process dies and it is opened again on the disk.
+/// Calls over a file, each of which adds an entry; how many entries the history has then; and which
+/// calls of the disk fail. After a call of the office that failed, the office goes on, or its
+/// process dies and it is opened again on the disk.
 #[derive(Clone, Copy)]
 struct Losing<'a> {
     file: Parts<'a>,
@@ -197,9 +198,9 @@ fn what_is_acknowledged_after_a_lost_sync_is_on_the_device(rt: HostRuntime) {
     }
 }
 
-/// A journal of the first version is refused by seven calls, moved by 28 and opened by 24. The last sync
-/// of moving is call 34: where it fails, the office is opened at once, since the file reads moved. The
-/// first call that fails is one of moving or of opening then.
+/// A journal of the first version is refused by seven calls, moved by 28 and opened by 24. The last
+/// sync of moving is call 34: where it fails, the office is opened at once, since the file reads
+/// moved. The first call that fails is one of moving or of opening then.
 #[test]
 fn what_is_acknowledged_after_a_migration_is_on_the_device(rt: HostRuntime) {
     let losing = Losing {

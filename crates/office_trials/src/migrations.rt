@@ -1,6 +1,6 @@
-//! Migrations: what each file becomes, what is left where a call of the disk fails, and what a crash leaves at each moment.
-//! Whatever is left, an audit finds the same history, and a second migration ends well. What is expected was worked out by
-//! hand from the format.
+//! Migrations: what each file becomes, what is left where a call of the disk fails, and what a
+//! crash leaves at each moment. Whatever is left, an audit finds the same history, and a second
+//! migration ends well. What is expected was worked out by hand from the format.
 
 use crate::audits::{Audited, expect_audit};
 use crate::equal::expect_equal;
@@ -24,8 +24,8 @@ use std::process::Abort;
 
 const LIMIT: u64 = WORKED.journal;
 
-/// A limit of the journal and a file; how many records a migration writes, how long the file is then,
-/// and the file.
+/// A limit of the journal and a file; how many records a migration writes, how long the file is
+/// then, and the file.
 type Row = (u64, Parts<'static>, (u64, u64), Parts<'static>);
 
 const TEN: Parts<'static> = &[OLD_HEADER, END, &[7]];
@@ -284,8 +284,8 @@ fn files_that_are_not_moved(rt: HostRuntime) {
     }
 }
 
-/// A journal of the first version and what it becomes: how many records are written, how long the file
-/// is then, and the place of the gate that is opened at the end.
+/// A journal of the first version and what it becomes: how many records are written, how long the
+/// file is then, and the place of the gate that is opened at the end.
 struct Case {
     old: Parts<'static>,
     moved: Parts<'static>,
@@ -309,10 +309,10 @@ const ELIGIBLE: Reply = Reply::Exposed(Some(Counts { alpha: 0, eps: 1 }));
 
 const SHOWN: Reply = Reply::Exposed(Some(Counts { alpha: 1, eps: 1 }));
 
-/// A migration walks over the file: sync, length, header, each gate, the last one twice, two for each
-/// record. Then the last open gate and the closed one are read and written again, sync, cut, sync; the
-/// mark is written; each record is read by two calls, and all of them are written by one; the last gate
-/// is written, sync, the old closed gate is opened, sync.
+/// A migration walks over the file: sync, length, header, each gate, the last one twice, two for
+/// each record. Then the last open gate and the closed one are read and written again, sync, cut,
+/// sync; the mark is written; each record is read by two calls, and all of them are written by one;
+/// the last gate is written, sync, the old closed gate is opened, sync.
 const CASES: [Case; 2] = [
     // The walk is calls 0 to 10, and the mark is written by call 18.
     Case {
@@ -427,8 +427,8 @@ fn each_call_of_a_migration_fails(rt: HostRuntime) {
     }
 }
 
-/// Of what is written after the closed gate a crash leaves any length, and any bytes: those that were
-/// written, or open gates.
+/// Of what is written after the closed gate a crash leaves any length, and any bytes: those that
+/// were written, or open gates.
 fn expect_history_if_torn<R: Abort>(rt: &R, alloc: Global, case: &Case, length: usize) {
     expect_history(rt, alloc, case, &front_of(rt, alloc, case, length, 0));
     let mut file = front_of(rt, alloc, case, case.gate.saturating_add(1), 0);

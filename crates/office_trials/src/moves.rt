@@ -34,8 +34,8 @@ pub(crate) struct Migration<'a> {
     pub fails: &'a [u64],
 }
 
-/// What a migration gave; and the bytes of the disk then, the gates from which bytes were put aside,
-/// and the count of the disk's calls.
+/// What a migration gave; and the bytes of the disk then, the gates from which bytes were put
+/// aside, and the count of the disk's calls.
 #[derive(Drop)]
 pub(crate) struct Left {
     pub answer: Answer,

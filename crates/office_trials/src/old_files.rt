@@ -16,8 +16,8 @@ pub(crate) const OLD_SET_ASIDE: &[u8] = &[1, 0, 0, 0, 10, 2, 0, 0, 0, 0, 0, 0, 1
 /// An open gate, and the mark after which the records are of the second version.
 pub(crate) const MARK: &[u8] = &[1, 0, 0, 0, 1, 8];
 
-/// An open gate and the length 142. Session 0 is started for booking 70 in two bands, with items 0 to
-/// 5 eligible in each: the last byte here is the first of the set of the first band.
+/// An open gate and the length 142. Session 0 is started for booking 70 in two bands, with items 0
+/// to 5 eligible in each: the last byte here is the first of the set of the first band.
 pub(crate) const TWO_BANDS: &[u8] = &[
     1, 0, 0, 0, 142, 6, 0, 0, 0, 0, 0, 0, 0, 0, 0, 0, 0, 70, 2, 0x3f,
 ];
@@ -25,7 +25,8 @@ pub(crate) const TWO_BANDS: &[u8] = &[
 /// The first byte of the set of the second band.
 pub(crate) const SECOND_BAND: &[u8] = &[0x3f];
 
-/// The journal of session 0 after its first item was served: 183 bytes, with gates at 8, 90 and 182.
+/// The journal of session 0 after its first item was served: 183 bytes, with gates at 8, 90 and
+/// 182.
 pub(crate) const OLD_SERVED: Parts<'static> = &[
     OLD_HEADER, OLD_START, REST, SERVE, REST, BEST, END,
 ];
@@ -35,7 +36,8 @@ pub(crate) const OLD_TRAILED: Parts<'static> = &[
     OLD_HEADER, OLD_START, REST, SERVE, REST, BEST, END, MORE,
 ];
 
-/// The same journal once it was moved: 364 bytes, with gates at 188, 271 and 363 after the old ones.
+/// The same journal once it was moved: 364 bytes, with gates at 188, 271 and 363 after the old
+/// ones.
 pub(crate) const MOVED: Parts<'static> = &[
     OLD_HEADER, OLD_START, REST, SERVE, REST, BEST, MARK, START, REST, SERVE, REST, BEST, END,
 ];

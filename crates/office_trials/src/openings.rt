@@ -78,8 +78,8 @@ const OPENINGS: [Opening; 10] = [
     // for each record; three gates are read and written again, sync, cut, sync.
     (LIMIT, MOVED, &[IS_SERVED], ONE_SERVED, 24, MOVED),
     (LIMIT, MOVED_TRAILED, &[IS_SERVED], ONE_SERVED, 25, MOVED),
-    // A payload before the mark is no record, and is not read as one. The first of these two is read
-    // to find the mark, since it has one byte.
+    // A payload before the mark is no record, and is not read as one. The first of these two is
+    // read to find the mark, since it has one byte.
     (LIMIT, NO_RECORDS, &[IS_SERVED], ONE_SERVED, 25, NO_RECORDS),
 ];
 
@@ -283,8 +283,8 @@ fn files_at_fault(rt: HostRuntime) {
     }
 }
 
-/// Files of the first version, their lengths and the first fault: those of the frames come before the
-/// version, and the version before those of the records.
+/// Files of the first version, their lengths and the first fault: those of the frames come before
+/// the version, and the version before those of the records.
 const OLD: [(Parts<'static>, usize, OpenFault); 11] = [
     (OLD_SERVED, 183, OpenFault::Version),
     (OLD_TRAILED, 185, OpenFault::Version),

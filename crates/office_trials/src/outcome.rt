@@ -95,7 +95,8 @@ pub(crate) const FOUND: Reply = Reply::Begun(Begun {
     fresh: false,
 });
 
-/// The first item of the worked session waits for an answer. It was served from a form that is proved best.
+/// The first item of the worked session waits for an answer. It was served from a form that is
+/// proved best.
 pub(crate) const FIRST: Place = Place::Waiting {
     step: 0,
     item: 2,

@@ -66,9 +66,9 @@ const ONE_CLOSED: Summary = Summary {
     nodes: 1,
 };
 
-/// A file, calls of the disk that fail, and calls of the office over it; and what they end with: the
-/// summary of the history, how many calls of the disk were made, how many of them failed, and the
-/// file.
+/// A file, calls of the disk that fail, and calls of the office over it; and what they end with:
+/// the summary of the history, how many calls of the disk were made, how many of them failed, and
+/// the file.
 type Looking = (
     Parts<'static>,
     &'static [u64],

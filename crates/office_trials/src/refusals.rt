@@ -44,8 +44,8 @@ const CALLS_AFTER: [Step; 13] = [
 
 const OTHER_BOOKING: Reply = Reply::Refused(Refusal::OtherBooking);
 
-/// Calls that name a booking, after the two sessions, and what they give. Session 0 is of booking 1,
-/// session 1 of booking 2, and booking 9 has no session. The first two would add an entry if the
+/// Calls that name a booking, after the two sessions, and what they give. Session 0 is of booking
+/// 1, session 1 of booking 2, and booking 9 has no session. The first two would add an entry if the
 /// booking were not compared. The others have a second fault, or repeat an answer.
 const NAMED_AFTER: [Step; 15] = [
     (Call::AnswerFor(0, 1, 0, 2), OTHER_BOOKING),

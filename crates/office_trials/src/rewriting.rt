@@ -84,8 +84,8 @@ const RARE: Numbers = Numbers {
     ..WORKED
 };
 
-/// The worked session, whatever is served in it, and two more. Eligibility is set aside where too few
-/// items are eligible.
+/// The worked session, whatever is served in it, and two more. Eligibility is set aside where too
+/// few items are eligible.
 const CALLS: &[Step] = &[
     (Call::Begin(71), Reply::Any),
     (Call::Serve(0), Reply::Any),

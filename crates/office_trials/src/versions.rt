@@ -1,6 +1,7 @@
-//! The journal of each version: which records of a file count. What is expected was worked out by hand from the format. With
-//! the header `SHADOWJ2` each record counts; with `SHADOWJ1` those after the first payload that is the one byte 8, and a file
-//! of more than nine bytes without such a payload is refused.
+//! The journal of each version: which records of a file count. What is expected was worked out by
+//! hand from the format. With the header `SHADOWJ2` each record counts; with `SHADOWJ1` those after
+//! the first payload that is the one byte 8, and a file of more than nine bytes without such a
+//! payload is refused.
 
 ghost use Rattle.answer_journal.specs.Standing.{IsAsLeft};
 ghost use Rattle.exam_edge.specs.MemoryDisk.{accounts_of};

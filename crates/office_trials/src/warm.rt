@@ -54,8 +54,8 @@ fn expect_replies<R: Abort>(rt: &R, alloc: Global, fails: &[u64], steps: &[&[Ste
     run(rt, alloc, &trial);
 }
 
-/// Opening is fifteen calls of the disk, 0 to 14. If call 15 fails, the record is dropped. If call 18
-/// fails, it is kept.
+/// Opening is fifteen calls of the disk, 0 to 14. If call 15 fails, the record is dropped. If call
+/// 18 fails, it is kept.
 #[test]
 fn the_vector_of_a_record_in_doubt(rt: HostRuntime) {
     let alloc = rt.alloc();

@@ -10,8 +10,8 @@ use Rattle.prepare_desk.specs.declared.desk.Ready.TheVariants.{Made, SameAs}
 use Rattle.prepare_desk.specs.declared.next.Before.{Before}
 use Rattle.prepare_desk.specs.declared.next.Next.{Next}
 
--- the least response in turn that leads to a problem: that of the response before, if its problem is
--- the same, else this response
+-- the least response in turn that leads to a problem: that of the response before, if its problem
+-- is the same, else this response
 abbrev pub IsLeastFor : Option Before → Problem → ℕ → ℕ → Type 0
 IsLeastFor (Some b) P response least =
     (IsSameProblem b.problem P × (least ≡ b.response))

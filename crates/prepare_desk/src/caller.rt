@@ -15,10 +15,11 @@ use std::marker::Model;
 use std::sync::Wait;
 use turn_lock::Pass;
 
-/// A caller of a hall: it answers requests with a pass of its own. By its type the pass is of the hall, and the place is at a desk
-/// of the hall. Its gate is also the observer, which is told how the examination is after each response. Where it prepares, it
-/// then assembles the next forms of the session of its last reply, if an item of that waits for its answer, and nothing is
-/// ready for the first response to it.
+/// A caller of a hall: it answers requests with a pass of its own. By its type the pass is of the
+/// hall, and the place is at a desk of the hall. Its gate is also the observer, which is told how
+/// the examination is after each response. Where it prepares, it then assembles the next forms of
+/// the session of its last reply, if an item of that waits for its answer, and nothing is ready for
+/// the first response to it.
 #[derive(Drop)]
 pub struct PreparingCaller<'h, 'a, D: Disk, G: Gate + Observer> {
     hall: &'h Hall<'a, D>,

@@ -63,8 +63,8 @@ impl<'a> Model for Desk<'a> {
 }
 
 impl<'a> Desk<'a> {
-    /// An empty desk for a bank, a plan and a base form, with room for so many results, at least one. It
-    /// takes no memory for them before there are results.
+    /// An empty desk for a bank, a plan and a base form, with room for so many results, at least
+    /// one. It takes no memory for them before there are results.
     pub fn new(
         alloc: Global,
         bank: &'a Bank,
@@ -104,8 +104,8 @@ impl<'a> Desk<'a> {
         }
     }
 
-    /// Takes out what is ready for an answer, and the result that it is. There is none unless it was
-    /// put, and not displaced since.
+    /// Takes out what is ready for an answer, and the result that it is. There is none unless it
+    /// was put, and not displaced since.
     pub fn take(&mut self, key: Key) -> Option<Assembled<'a>>
         ensures ready { result ≡ ready_at self.old.results key }
         ensures left { self.new ≡ record self.old { results = left_at self.old.results key } }
@@ -130,8 +130,8 @@ impl<'a> Desk<'a> {
         self.results.contains(&key)
     }
 
-    /// Puts what is ready for an answer. If there is no room, what was put longest ago is displaced.
-    /// `Memory` is lack of memory: the desk is as it was.
+    /// Puts what is ready for an answer. If there is no room, what was put longest ago is
+    /// displaced. `Memory` is lack of memory: the desk is as it was.
     pub fn put(&mut self, key: Key, ready: Ready<'a>) -> Result<(), Memory>
         requires { IsReadyFor self.old.purpose ready }
         ensures purpose { self.new.purpose ≡ self.old.purpose }

@@ -1,6 +1,6 @@
 //! A desk that one caller has for itself.
 
-ghost use Rattle.std.specs.Prelude.{◌≡◌, ◌≤◌, IfOk, IfSome};
+ghost use Rattle.std.specs.Prelude.{◌≡◌, IfSome};
 ghost use Rattle.exam_hall.specs.Known.{HasGrown, IsOf, marked};
 ghost use Rattle.exam_hall.specs.Sees.{Sees};
 ghost use Rattle.exam_hall.specs.Used.{Uses};
@@ -20,9 +20,10 @@ use std::sync::Wait;
 use turn_lock::Pass;
 
 impl<'a> Desk<'a> {
-    /// Answers a request as the hall does, with the result for it, if it is an answer and one is ready.
-    /// That result is taken out. If it has a form, an item that is served at the next step is the one of
-    /// that form, unless another caller set eligibility aside for the session meanwhile.
+    /// Answers a request as the hall does, with the result for it, if it is an answer and one is
+    /// ready. That result is taken out. If it has a form, an item that is served at the next step
+    /// is the one of that form, unless another caller set eligibility aside for the session
+    /// meanwhile.
     pub fn handle<D: Disk, G: Gate, R: Wait>(
         &mut self,
         rt: &R,
@@ -63,8 +64,8 @@ impl<'a> Desk<'a> {
         }
     }
 
-    /// Prepares the forms of a session's next step, as `Post::prepare` does. All that it puts on the desk
-    /// is for answers in that session.
+    /// Prepares the forms of a session's next step, as `Post::prepare` does. All that it puts on
+    /// the desk is for answers in that session.
     pub fn prepare<D: Disk, G: Gate, R: Wait>(
         &mut self,
         rt: &R,

@@ -1,6 +1,5 @@
 //! The turns on a shared desk.
 
-ghost use Rattle.std.specs.Prelude.{◌≡◌};
 ghost use Rattle.prepare_desk.specs.Turns.{IsReadyThere, Keeps, TakesOut, ready_later};
 
 use crate::desk::{Desk, Ready};

@@ -39,9 +39,9 @@ pub(crate) struct Next<'a> {
     pub(crate) before: Before<'a>,
 }
 
-/// Looks ahead at the step that follows a response, and assembles its form; none if no step follows,
-/// or if the session was answered since the response before. The gate is passed before and after
-/// the assembly. `Memory` is lack of memory.
+/// Looks ahead at the step that follows a response, and assembles its form; none if no step
+/// follows, or if the session was answered since the response before. The gate is passed before and
+/// after the assembly. `Memory` is lack of memory.
 pub(crate) fn next_after<'a, D: Disk, G: Gate, R: Wait>(
     rt: &R,
     alloc: Global,

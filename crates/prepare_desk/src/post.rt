@@ -1,12 +1,12 @@
 //! What one caller has of a shared desk.
 
-ghost use Rattle.std.specs.Prelude.{◌≡◌, ◌+◌, ◌<◌, ℕ, [], ◌∷◌, IfOk, IfSome};
+ghost use Rattle.std.specs.Prelude.{◌≡◌, ◌+◌, ◌<◌, [], ◌∷◌, IfOk, IfSome};
 ghost use Rattle.turn_lock.specs.Passes.{Known};
 ghost use Rattle.exam_hall.specs.Known.{HasGrown, IsOf, marked};
 ghost use Rattle.exam_hall.specs.Prepared.{IsPrepared};
 ghost use Rattle.exam_hall.specs.Sees.{Sees};
 ghost use Rattle.exam_handler.specs.Handling.{IsReply};
-ghost use Rattle.prepare_desk.specs.Desks.{DeskPurpose, IsReadyFor, purpose_of};
+ghost use Rattle.prepare_desk.specs.Desks.{DeskPurpose, IsReadyFor};
 ghost use Rattle.prepare_desk.specs.Posts.{IsFirstOf, IsIdle, IsPostOf};
 
 use crate::desk::{Desk, Ready};
@@ -24,8 +24,8 @@ use std::marker::Model;
 use std::sync::Wait;
 use turn_lock::{Pass, Turn};
 
-/// A desk that callers share, for a bank, a plan and a base form, with room for so many results, and
-/// its first pass.
+/// A desk that callers share, for a bank, a plan and a base form, with room for so many results,
+/// and its first pass.
 pub fn shared<'a>(
     alloc: Global,
     bank: &'a Bank,
@@ -92,7 +92,8 @@ impl<'h, 'a> Post<'h, 'a> {
         self.desk.turn(rt, &mut self.pass, &mut TakeOut { key })
     }
 
-    /// Puts what is ready for an answer. It waits for a turn at the desk. `Memory` is lack of memory.
+    /// Puts what is ready for an answer. It waits for a turn at the desk. `Memory` is lack of
+    /// memory.
     fn put<R: Wait>(&mut self, rt: &R, key: Key, ready: Ready<'a>) -> Result<(), Memory>
         requires { (p : DeskPurpose) × (self.old.seen ≡ p ∷ []) × IsReadyFor p ready }
         ensures { (p : DeskPurpose) → self.old.seen ≡ p ∷ [] → self.new.seen ≡ p ∷ [] }
@@ -104,8 +105,8 @@ impl<'h, 'a> Post<'h, 'a> {
         self.desk.turn(rt, &mut self.pass, &mut step)
     }
 
-    /// Answers a request as the hall does, with the result for it, if it is an answer and one is ready:
-    /// then its form needs no assembly.
+    /// Answers a request as the hall does, with the result for it, if it is an answer and one is
+    /// ready: then its form needs no assembly.
     pub fn handle<D: Disk, G: Gate, R: Wait>(
         &mut self,
         rt: &R,

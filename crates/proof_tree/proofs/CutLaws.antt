@@ -1,4 +1,5 @@
--- The first bytes of a tree, cut off anywhere before its end, are Short, or Unfinished at their end.
+-- The first bytes of a tree, cut off anywhere before its end, are Short, or Unfinished at their
+-- end.
 use Rattle.std.proofs.Common.{◌≡◌, ℕ, zero, suc, ◌+◌, ◌-◌, ◌<◌, ◌≤◌, ◌⊎◌, inl, inr, true, false, ltb, leb, eqb, ◌||◌, List, [], ◌∷◌, length, get_or, take, drop, Option, None, Result, Ok, Err, refl, sym, ap, subst, ◌∙◌, arith}
 use Rattle.std.specs.Int.{Width, w16, w32, byte_len, from_be_bytes}
 use Rattle.std.proofs.lemmas.Bool.{cases_lt, lt-ltb, le-ltb}

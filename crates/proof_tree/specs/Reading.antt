@@ -1,4 +1,5 @@
--- Reading a proof tree from left to right, up to the first fault, with the place where the faulty field or node begins.
+-- Reading a proof tree from left to right, up to the first fault, with the place where the faulty
+-- field or node begins.
 use Rattle.std.specs.Prelude.{ℕ, zero, suc, ◌+◌, ◌-◌, ◌||◌, ◌==◌, nat_lt, nat_le, List, [], ◌∷◌, length, take, drop, slice_index, Result, Ok, Err, if◌then◌else◌}
 use Rattle.std.specs.Int.{Width, w16, w32, byte_len, from_be_bytes}
 use Rattle.exam_text.specs.First.{◌>>=◌, unless, fault_where}
@@ -107,7 +108,8 @@ nodes_at (suc room) (suc waiting) bytes at =
 
 -- ---- a tree
 
--- the tree at the front of the bytes, and the number of bytes that it takes; what follows isn't read
+-- the tree at the front of the bytes, and the number of bytes that it takes; what follows isn't
+-- read
 unfoldable pub read : List ℕ → Result (ProofTree × ℕ) TreeFault
 read bytes = do
   count ← byte_at bytes 0

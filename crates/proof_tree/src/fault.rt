@@ -12,8 +12,9 @@ pub enum TreeFault {
     Short,
     /// The node that begins here is of no kind, or its number is out of its range.
     BadKind(u64),
-    /// This number of a vector breaks a rule: more than 384 pairs, or more than 12,288 with those of the vectors before,
-    /// a side that isn't above the one before or isn't below 386, or a multiplier that isn't from 1 to 16,777,216.
+    /// This number of a vector breaks a rule: more than 384 pairs, or more than 12,288 with those
+    /// of the vectors before, a side that isn't above the one before or isn't below 386, or a
+    /// multiplier that isn't from 1 to 16,777,216.
     BadVector(u64),
     /// The bytes end here, between two nodes, and the tree isn't whole.
     Unfinished(u64),

@@ -10,10 +10,11 @@ use bank_tables::limits::{PAIRS, VECTOR_PAIRS, VECTORS};
 use certificate_model::Node;
 use std::marker::Model;
 
-/// A proof tree (branch and bound; Land and Doig, An Automatic Method of Solving Discrete Programming Problems, 1960):
-/// at most 255 vectors with sides below 386, of at most 384 pairs each and 12,288 in all, and at most 4,095 nodes, which
-/// are one binary tree in preorder, the side with the item or stimulus first. A node names an item below 512, a stimulus
-/// from 1 to 64, or a row of at most 192.
+/// A proof tree (branch and bound; Land and Doig, An Automatic Method of Solving Discrete
+/// Programming Problems, 1960): at most 255 vectors with sides below 386, of at most 384 pairs each
+/// and 12,288 in all, and at most 4,095 nodes, which are one binary tree in preorder, the side with
+/// the item or stimulus first. A node names an item below 512, a stimulus from 1 to 64, or a row of
+/// at most 192.
 #[derive(Debug, Drop)]
 pub struct Tree {
     vectors: List<Vector>,

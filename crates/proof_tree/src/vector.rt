@@ -8,8 +8,9 @@ use bank_tables::limits::MULTIPLIER;
 use std::alloc::{AllocError, Global};
 use std::marker::Model;
 
-/// The multiplier of each side of the constraints that it names: pairs of a side and a multiplier, sides strictly
-/// ascending, multipliers 1 to 16,777,216. A side that isn't named has the multiplier 0.
+/// The multiplier of each side of the constraints that it names: pairs of a side and a multiplier,
+/// sides strictly ascending, multipliers 1 to 16,777,216. A side that isn't named has the
+/// multiplier 0.
 #[derive(Debug, Drop)]
 pub struct Vector {
     pairs: List<(u16, u32)>,
@@ -48,8 +49,8 @@ impl Vector {
         Vector { pairs }
     }
 
-    /// The vector of these pairs; None exactly where the sides don't ascend strictly or a multiplier is out of its
-    /// range.
+    /// The vector of these pairs; None exactly where the sides don't ascend strictly or a
+    /// multiplier is out of its range.
     pub fn of(pairs: List<(u16, u32)>) -> Option<Vector>
         ensures some { IsSome result ↔ IsVector 0 pairs }
         ensures pairs { IfSome result (λ v. v ≡ pairs) }

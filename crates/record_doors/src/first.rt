@@ -12,7 +12,8 @@ use record_links::{RecordLog, Replica};
 use std::alloc::Global;
 use std::sync::Wait;
 
-/// Follows the links of the first door. No door counts as one that gives no link. No link of a door may be out before.
+/// Follows the links of the first door. No door counts as one that gives no link. No link of a door
+/// may be out before.
 pub fn follow_first<F: Replica, L: Door, R: Wait>(
     rt: &R,
     alloc: Global,
@@ -42,7 +43,8 @@ pub fn follow_first<F: Replica, L: Door, R: Wait>(
     follow_door(rt, alloc, replica, &mut doors[0])
 }
 
-/// Ships records over one link of the first door. No door counts as one that gives no link. No link of a door may be out before.
+/// Ships records over one link of the first door. No door counts as one that gives no link. No link
+/// of a door may be out before.
 pub fn ship_first<S: RecordLog, L: Door>(alloc: Global, log: &mut S, doors: &mut [L]) -> DoorEnd
     requires home { All (λ door. L.is_out door ≡ false) doors.old }
     requires allowed { AllowsAll L.Link.tells L.Link.allows }

@@ -80,8 +80,8 @@ fn follow_next<F: Replica, L: Door, R: Wait>(
     }
 }
 
-/// Follows the links of a door one after another, until it gives no more. The first fault ends it; what was taken stays. No
-/// link of the door may be out before.
+/// Follows the links of a door one after another, until it gives no more. The first fault ends it;
+/// what was taken stays. No link of the door may be out before.
 pub fn follow_door<F: Replica, L: Door, R: Wait>(
     rt: &R,
     alloc: Global,

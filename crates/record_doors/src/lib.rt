@@ -1,7 +1,7 @@
-//! The doors of a follower and of a shipper. Upward: the links of a follower's door are followed one after another, until the door
-//! gives no more or fails, or a link ends in another way than well; a shipper takes one link. Each link goes back to its door.
-//! Of several doors only the first is used.
-//! Who keeps the records, and from where they are shipped, are traits.
+//! The doors of a follower and of a shipper. Upward: the links of a follower's door are followed
+//! one after another, until the door gives no more or fails, or a link ends in another way than
+//! well; a shipper takes one link. Each link goes back to its door. Of several doors only the first
+//! is used. Who keeps the records, and from where they are shipped, are traits.
 #![tactic(auto)]
 
 mod door_end;

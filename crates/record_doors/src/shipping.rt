@@ -35,7 +35,8 @@ fn ship_out<S: RecordLog, L: Door>(
     followed
 }
 
-/// Takes one link of a door, ships records over it, and gives it back. No link of the door may be out before.
+/// Takes one link of a door, ships records over it, and gives it back. No link of the door may be
+/// out before.
 pub fn ship_door<S: RecordLog, L: Door>(alloc: Global, log: &mut S, door: &mut L) -> DoorEnd
     requires home { L.is_out door.old ≡ false }
     requires allowed { AllowsAll L.Link.tells L.Link.allows }

@@ -5,7 +5,7 @@ use Rattle.record_links.specs.declared.replica.TakeFault.TheVariants.{Refused, F
 use Rattle.record_links.specs.Events.{IsFollowerOf, LeadsTo, TakesAreEvents, FaultsAreEvents, StopsAreEvents, LinksGoOn, EventsJoin, texts_of, OffersAreEvents}
 use Rattle.record_links.specs.Following.{begun as serves_none, and_then as serves_more}
 use Rattle.record_links.specs.Messages.{offer_of, offer_text}
-use Rattle.record_links.specs.Replicas.{Held, sure, IsMended, as_they_are, with_doubt, IsUndelivered, Takes}
+use Rattle.record_links.specs.Replicas.{Held, sure, IsMended, as_they_are, with_doubt, IsUndelivered}
 use Rattle.record_links.specs.Shipping.{begun, and_then}
 use Rattle.record_links.proofs.EventLaws.{split_last}
 use Rattle.record_links.specs.World.{Numbered, World, Delivers, appended, sends, delivers, stops_with, answers, HappensAlong, nothing, and_then as and_then_event}

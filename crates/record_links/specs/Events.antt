@@ -56,8 +56,8 @@ StopsAreEvents may =
     → IsFollowerOf may w old → Contains w.sent offer → StopLeaves may old offer left
     → (v : World (List ℕ)) × LeadsTo may w (sure left) v × (v.most ≡ w.most)
 
--- a link of any such replica, also with a record in doubt at its start: events, with an answer of the
--- count then
+-- a link of any such replica, also with a record in doubt at its start: events, with an answer of
+-- the count then
 abbrev pub LinksGoOn : (List (List ℕ) → List ℕ → Type 0) → (List (List ℕ) → ℕ) → ℕ → Type 0
 LinksGoOn may size limit =
     (w : World (List ℕ)) (bytes : List ℕ) (start : Held) (offers : List (Numbered (List ℕ)))

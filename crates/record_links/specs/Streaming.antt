@@ -46,16 +46,16 @@ pub data Streams (start : List (List ℕ)) (bytes : List ℕ)
       → slice_get records n ≡ Some payload
       → Streams start bytes (text ++ offer_text n payload) next records
 
--- why the record of a number never comes: there are fewer records than the number; or the log's file
--- failed, or memory ran out
+-- why the record of a number never comes: there are fewer records than the number; or the log's
+-- file failed, or memory ran out
 abbrev pub Stops : List (List ℕ) → ℕ → Followed → Type 0
 Stops records number (Peer fault) = (fault ≡ Above number) × (length records < number)
 Stops records number Disk = ⊤
 Stops records number Memory = ⊤
 Stops records number other = ⊥
 
--- what was written for the have of a number: the offer that answers it, or, where the link failed, a
--- part of one; nothing where the record never comes
+-- what was written for the have of a number: the offer that answers it, or, where the link failed,
+-- a part of one; nothing where the record never comes
 abbrev pub Answers : List (List ℕ) → ℕ → List ℕ → Turn → Type 0
 Answers records number text GoesOn =
     (n : ℕ) × IsReply number n × shipping.Sends records n text GoesOn

@@ -5,7 +5,8 @@ use crate::PeerFault;
 /// How a link ended, for the follower or for the side that ships.
 #[derive(Clone, Copy, Debug, PartialEq, Eq)]
 pub enum Followed {
-    /// The follower has so many records: those that were shipped, or, at the follower, those until the end of the link.
+    /// The follower has so many records: those that were shipped, or, at the follower, those until
+    /// the end of the link.
     Done(u64),
     /// The link failed, and has counted that.
     Link,
@@ -15,7 +16,8 @@ pub enum Followed {
     Offer(u64),
     /// With the next record the file would have this length, in bytes, above its limit.
     Full(u64),
-    /// The record of this number is not there any more: only a log that does not report its records ends a link so.
+    /// The record of this number is not there any more: only a log that does not report its records
+    /// ends a link so.
     Lost(u64),
     /// The disk failed, and has counted that.
     Disk,

@@ -125,8 +125,9 @@ fn follow_all<F: Replica, K: Link, R: Wait>(
     unreachable!()
 }
 
-/// Follows the records that come over one link: writes a have of the records, then takes each offer and writes a have of the
-/// records after it, until the end. The first fault ends it; what was taken stays.
+/// Follows the records that come over one link: writes a have of the records, then takes each offer
+/// and writes a have of the records after it, until the end. The first fault ends it; what was
+/// taken stays.
 pub fn follow_link<F: Replica, K: Link, R: Wait>(
     rt: &R,
     alloc: Global,

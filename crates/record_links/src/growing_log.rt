@@ -1,5 +1,5 @@
 //! From where records are shipped while they are written.
-ghost use Rattle.std.specs.Prelude.{◌≡◌, ◌<◌, ◌≤◌, IsTrue, IfOk, IfErr, length};
+ghost use Rattle.std.specs.Prelude.{◌≡◌, ◌<◌, ◌≤◌, IsTrue, IfOk, IfErr};
 ghost use Rattle.exam_edge.specs.Faults.{Rose};
 ghost use Rattle.record_links.specs.Streaming.{IsGrown, Gives, IsAnswer};
 
@@ -35,7 +35,8 @@ pub trait GrowingLog {
     /// The payloads of its records.
     ghost records: { Self → List (List ℕ) };
 
-    /// How many calls of its file have failed: a count that never falls, and stays at its last value.
+    /// How many calls of its file have failed: a count that never falls, and stays at its last
+    /// value.
     ghost faults: { Self → ℕ };
 
     /// What there is of the record of a number.
@@ -49,8 +50,8 @@ pub trait GrowingLog {
             → Rose (faults self.old) (faults self.new)) }
         ensures grows { faults self.old ≤ faults self.new };
 
-    /// Waits a while for more records. Whether the other side of a link is to hear something meanwhile: a link on which nothing
-    /// moves for a minute is given up.
+    /// Waits a while for more records. Whether the other side of a link is to hear something
+    /// meanwhile: a link on which nothing moves for a minute is given up.
     fn wait(&mut self) -> bool
         ensures grown { IsTrue (tells self.old) → IsGrown (records self.old) (records self.new) }
         ensures tells { tells self.new ≡ tells self.old }

@@ -11,7 +11,8 @@ use crate::offer::{kind_of, number_of};
 use exam_edge::Link;
 use std::alloc::Global;
 
-/// The count in the have at the front of what was kept and what the link still gives, which then have what follows it.
+/// The count in the have at the front of what was kept and what the link still gives, which then
+/// have what follows it.
 pub(crate) fn next_have<K: Link>(
     alloc: Global,
     link: &mut K,

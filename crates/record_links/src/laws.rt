@@ -7,20 +7,21 @@ ghost use Rattle.record_links.specs.World.{Numbered, FollowsAlong};
 
 use crate::Replica;
 
-/// Whatever happens to a leader and a follower that begins as it does, by the rule of a replica, its records are a beginning of
-/// the leader's, and none that it ever answered for is lacking.
+/// Whatever happens to a leader and a follower that begins as it does, by the rule of a replica,
+/// its records are a beginning of the leader's, and none that it ever answered for is lacking.
 pub fn a_follower_follows<F: Replica>(_replica: &F)
     ensures { FollowsAlong (F.may_follow _replica.now) }
 {}
 
-/// What a link does to a replica with no record in doubt is events of the world, where the offers that it took were sent.
+/// What a link does to a replica with no record in doubt is events of the world, where the offers
+/// that it took were sent.
 pub fn links_are_events<F: Replica>(_replica: &F)
     ensures { LinksAreEvents (F.may_follow _replica.now) (F.size _replica.now)
         (F.limit _replica.now) }
 {}
 
-/// A replica with an offer that was sent in hand goes on within the world of a leader, whether the call takes the offer, fails,
-/// or is cut off by a stop. Only an offer that is taken is answered.
+/// A replica with an offer that was sent in hand goes on within the world of a leader, whether the
+/// call takes the offer, fails, or is cut off by a stop. Only an offer that is taken is answered.
 pub fn calls_are_events<F: Replica>(_replica: &F)
     ensures taken { TakesAreEvents (F.may_follow _replica.now) }
     ensures fault { FaultsAreEvents (F.may_follow _replica.now) (F.size _replica.now)

@@ -1,7 +1,9 @@
-//! A follower of a leader's records: what the two say to one another over a link, and what the follower keeps of it. Upward: over
-//! every loss, repeat and stop its records are a beginning of the leader's, with at least as many as it ever answered. A link
-//! leaves it where the offers that were read leave it, in their order, and what it wrote is the counts after them; the leader's
-//! side wrote the offer of each record that was asked for. Who keeps the records, and from where they are shipped, are traits.
+//! A follower of a leader's records: what the two say to one another over a link, and what the
+//! follower keeps of it. Upward: over every loss, repeat and stop its records are a beginning of
+//! the leader's, with at least as many as it ever answered. A link leaves it where the offers that
+//! were read leave it, in their order, and what it wrote is the counts after them; the leader's
+//! side wrote the offer of each record that was asked for. Who keeps the records, and from where
+//! they are shipped, are traits.
 #![tactic(auto)]
 
 mod fault;

@@ -6,8 +6,8 @@ ghost use Rattle.record_links.specs.Messages.{IsPayload};
 use crate::{LogFault, RecordLog, Replica, TakeFault};
 use std::alloc::{AllocError, Global};
 
-/// Records in memory: a replica, and a log to ship from. No record of it begins with one certain byte, and it has at most as
-/// many as its limit. A stop leaves what it has: none is ever in doubt.
+/// Records in memory: a replica, and a log to ship from. No record of it begins with one certain
+/// byte, and it has at most as many as its limit. A stop leaves what it has: none is ever in doubt.
 #[derive(Drop)]
 pub struct MemoryRecords {
     payloads: Vec<Vec<u8>>,
@@ -20,7 +20,8 @@ pub struct MemoryRecords {
 impl MemoryRecords {
     ghost use Rattle.record_links.specs.Memory.{payloads_of};
 
-    /// No records, of which none will begin with this byte, and which will be at most so many. It takes no memory.
+    /// No records, of which none will begin with this byte, and which will be at most so many. It
+    /// takes no memory.
     pub fn new(alloc: Global, refused: u8, limit: u64) -> MemoryRecords
         ensures { payloads_of result ≡ [] }
     {

@@ -45,7 +45,8 @@ fn size_of(bytes: &[u8]) -> u32
     u32::from_be_bytes([bytes[9], bytes[10], bytes[11], bytes[12]])
 }
 
-/// The message at the front of what was kept and what the link still gives, which then have what follows it.
+/// The message at the front of what was kept and what the link still gives, which then have what
+/// follows it.
 pub(crate) fn next_offer<K: Link>(
     alloc: Global,
     link: &mut K,

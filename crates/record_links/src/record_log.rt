@@ -8,7 +8,8 @@ use std::alloc::Global;
 /// Why a record was not read.
 #[derive(Clone, Copy, Debug, PartialEq, Eq)]
 pub enum LogFault {
-    /// The record of this number is not there any more. A log that reports its records never answers so.
+    /// The record of this number is not there any more. A log that reports its records never
+    /// answers so.
     Lost(u64),
     /// The disk failed, and has counted that.
     Disk,
@@ -26,7 +27,8 @@ pub trait RecordLog {
     /// The payloads of its records.
     ghost records: { Self → List (List ℕ) };
 
-    /// How many calls of its disk have failed: a count that never falls, and stays at its last value.
+    /// How many calls of its disk have failed: a count that never falls, and stays at its last
+    /// value.
     ghost faults: { Self → ℕ };
 
     /// Whether it is as the earlier one in all that no call changes.

@@ -11,7 +11,8 @@ use std::alloc::Global;
 pub enum TakeFault {
     /// Its number is the count, and its payload is no record, or one that may not follow.
     Refused,
-    /// Its number is the count and its record may follow; with it the file would have this length, above its limit.
+    /// Its number is the count and its record may follow; with it the file would have this length,
+    /// above its limit.
     Full(u64),
     /// The disk failed, and has counted that.
     Disk,
@@ -36,10 +37,12 @@ pub trait Replica {
     /// The greatest size of its file, in bytes.
     ghost limit: { Self → ℕ };
 
-    /// Records that may be found after a stop at a call of the disk between the one state and the other.
+    /// Records that may be found after a stop at a call of the disk between the one state and the
+    /// other.
     ghost may_leave: { Self → Self → List (List ℕ) → Type 0 };
 
-    /// How many calls of its disk have failed: a count that never falls, and stays at its last value.
+    /// How many calls of its disk have failed: a count that never falls, and stays at its last
+    /// value.
     ghost faults: { Self → ℕ };
 
     /// Whether it is as the earlier one in all that no call changes.
@@ -49,8 +52,9 @@ pub trait Replica {
     fn count(&self) -> u64
         ensures { result ≡ length (held self.now).records };
 
-    /// Delivers an offer, and answers how many records it has then, each on its disk for sure. It mends first where a record
-    /// is in doubt. An offer with the number of the count is added, or refused; one with another number leaves the records.
+    /// Delivers an offer, and answers how many records it has then, each on its disk for sure. It
+    /// mends first where a record is in doubt. An offer with the number of the count is added, or
+    /// refused; one with another number leaves the records.
     fn take(&mut self, alloc: Global, number: u64, payload: &[u8]) -> Result<u64, TakeFault>
         requires { IsPayload payload.now }
         ensures taken { IfOk result (λ _. Takes (may_follow self.old) (held self.old)

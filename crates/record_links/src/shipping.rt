@@ -97,8 +97,9 @@ fn ship_message<S: RecordLog, K: Link>(
     }
 }
 
-/// Ships the records that a follower asks for, until it has all of them: writes the offer of each record whose number comes in a
-/// have, and the end after the have of their count. It reads at most two haves for each record, and one more.
+/// Ships the records that a follower asks for, until it has all of them: writes the offer of each
+/// record whose number comes in a have, and the end after the have of their count. It reads at most
+/// two haves for each record, and one more.
 pub fn ship_link<S: RecordLog, K: Link>(alloc: Global, log: &mut S, link: &mut K) -> Followed
     requires { AllowsAll K.tells K.allows }
     ensures shipped { IsTrue (S.tells log.old) → IsTrue (K.tells link.old) → (text : List ℕ)

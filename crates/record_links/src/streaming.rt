@@ -1,5 +1,5 @@
 //! The leader's side of a link while its records grow.
-ghost use Rattle.std.specs.Prelude.{◌≡◌, ◌⊎◌, ◌+◌, ◌≤◌, ◌++◌, List, ℕ, IsTrue, IfOk, IfErr, Some, slice_get};
+ghost use Rattle.std.specs.Prelude.{◌≡◌, ◌+◌, ◌≤◌, ◌++◌, List, ℕ, IsTrue, IfOk, IfErr, Some, slice_get};
 ghost use Rattle.std.specs.Option.{ForSome};
 ghost use Rattle.exam_edge.specs.Allowing.{AllowsAll};
 ghost use Rattle.exam_edge.specs.Faults.{Rose};
@@ -53,8 +53,8 @@ fn find_record<G: GrowingLog>(
     }
 }
 
-// What answers the have of a number: its record, once it is there; or, where that takes so long that the follower is to hear
-// something meanwhile, the record before it again.
+// What answers the have of a number: its record, once it is there; or, where that takes so long
+// that the follower is to hear something meanwhile, the record before it again.
 fn await_record<G: GrowingLog, R: Wait>(
     rt: &R,
     alloc: Global,
@@ -156,9 +156,10 @@ fn stream_message<G: GrowingLog, K: Link, R: Wait>(
     }
 }
 
-/// Ships the records that a follower asks for while others are added: for each have it writes the offer of the record of that
-/// number, once there is one, or, where that takes long, the offer of the record before it, which the follower has. It ends by a
-/// fault of the link, the peer, the log or memory, and not before.
+/// Ships the records that a follower asks for while others are added: for each have it writes the
+/// offer of the record of that number, once there is one, or, where that takes long, the offer of
+/// the record before it, which the follower has. It ends by a fault of the link, the peer, the log
+/// or memory, and not before.
 pub fn stream_link<G: GrowingLog, K: Link, R: Wait>(
     rt: &R,
     alloc: Global,

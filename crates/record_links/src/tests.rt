@@ -58,7 +58,8 @@ fn what_is_shipped_is_followed(rt: HostRuntime) -> Result<(), AllocError> {
     assert!(rt; ship_link(alloc, &mut records, &mut link) == Followed::Done(3));
     let wanted = joined(alloc, &[&OFFER_0, &OFFER_1, &OFFER_1, &OFFER_0, &END])?;
     assert!(rt; link.bytes() == &wanted[..]);
-    // A follower with one record, another offer of it, one that is not the next, and then the others.
+    // A follower with one record, another offer of it, one that is not the next, and then the
+    // others.
     let mut copy = MemoryRecords::new(alloc, 255, 3);
     let mut link = link_of(alloc, &[&OFFER_0, &END, &OFFER_1], &[])?;
     assert!(rt; follow_link(&rt, alloc, &mut copy, &mut link) == Followed::Done(1));
@@ -75,7 +76,8 @@ fn what_is_shipped_is_followed(rt: HostRuntime) -> Result<(), AllocError> {
     Ok(())
 }
 
-// How a link of these messages ends at a follower of three records, and whether it answers so many haves of them.
+// How a link of these messages ends at a follower of three records, and whether it answers so many
+// haves of them.
 fn ends<R: Abort + Wait>(
     rt: &R,
     alloc: Global,
@@ -146,7 +148,8 @@ fn a_follower_refuses_what_no_shipper_sends(rt: HostRuntime) -> Result<(), Alloc
         &two,
         Followed::Peer(PeerFault::Cut),
     )?;
-    // A record that may not follow, at its number and at another one; and one more than there is room for.
+    // A record that may not follow, at its number and at another one; and one more than there is
+    // room for.
     ends(&rt, alloc, &[&REFUSED_3], &one, Followed::Offer(3))?;
     let far = [1, 0, 0, 0, 0, 0, 0, 0, 9, 0, 0, 0, 1, 255];
     ends(&rt, alloc, &[&far], &two, Followed::Done(3))?;
@@ -231,7 +234,8 @@ fn a_link_that_fails_ends(rt: HostRuntime) -> Result<(), AllocError> {
         let mut link = link_of(alloc, &[&OFFER_1, &END], &[fails])?;
         assert!(rt; follow_link(&rt, alloc, &mut records, &mut link) == Followed::Link);
     }
-    // The shipper reads a have, and writes an offer; then it reads the have of all, and writes the end.
+    // The shipper reads a have, and writes an offer; then it reads the have of all, and writes the
+    // end.
     let mut link = link_of(alloc, &[&HAVE_1, &HAVE_3], &[0])?;
     assert!(rt; ship_link(alloc, &mut records, &mut link) == Followed::Link);
     assert!(rt; link.bytes().is_empty());

@@ -7,7 +7,8 @@ ghost use Rattle.record_links.specs.Messages.{IsCutOff, IsPayload, have_text, of
 use exam_edge::{Failed, Link};
 use std::alloc::{AllocError, Global};
 
-/// Writes a whole text. `Failed` where the link's count of faults rose; a part of the text was written then.
+/// Writes a whole text. `Failed` where the link's count of faults rose; a part of the text was
+/// written then.
 pub(crate) fn write_all<K: Link>(link: &mut K, text: &[u8]) -> Result<(), Failed>
     requires { AllowsAll K.tells K.allows }
     ensures whole { OnOk result (IsTrue (K.tells link.old)

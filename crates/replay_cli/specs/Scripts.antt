@@ -36,8 +36,8 @@ abbrev pub IsNamed : Option ℕ → Type 0
 IsNamed None = Unit {0}
 IsNamed (Some booking) = booking ≤ 18446744073709551615
 
--- a booking has 64 bits, a session 32, a step 16, a response 8; a list has an item, and each is below
--- 512
+-- a booking has 64 bits, a session 32, a step 16, a response 8; a list has an item, and each is
+-- below 512
 abbrev pub IsInRange : Request → Type 0
 IsInRange (Begin booking) = booking ≤ 18446744073709551615
 IsInRange (BeginWithout booking items) =

@@ -28,8 +28,8 @@ pub fn printed_requests_are_a_script()
         → IsScript (text_of_requests requests) requests }
 {}
 
-/// A line is that of one request. So the line of a beginning without a list is read as it was before
-/// there were lists, and a list has one spelling.
+/// A line is that of one request. So the line of a beginning without a list is read as it was
+/// before there were lists, and a list has one spelling.
 pub fn a_line_is_one_request()
     ensures one { (request other : Request) → IsInRange request → IsInRange other
         → request_line request ≡ request_line other → request ≡ other }

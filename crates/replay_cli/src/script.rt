@@ -1,6 +1,6 @@
 //! The requests of a script.
 
-ghost use Rattle.std.specs.Prelude.{◌≡◌, ℕ, ◌⊎◌, ◌<◌, ◌≤◌, List, [], length, map, codes, IsTrue, IfOk, IfErr, IfSome};
+ghost use Rattle.std.specs.Prelude.{◌≡◌, ℕ, ◌⊎◌, ◌<◌, ◌≤◌, List, [], length, map, IsTrue, IfOk, IfErr, IfSome};
 ghost use Rattle.exam_edge.specs.Faults.{Rose};
 ghost use Rattle.exam_edge.specs.Lent.{IsLent};
 ghost use Rattle.exam_text.specs.First.{Gives, or_fault};
@@ -184,11 +184,12 @@ fn requests_in(alloc: Global, text: &[u8]) -> Result<Vec<Request>, ScriptFault>
 }
 
 /// The requests of the script that a source gives, in order. A script has a line for each request:
-/// `begin B`, `begin B without SET`, `answer S K R`, `answer S K R for B`, `close S`, `close S for B`,
-/// `look S` or `exposure`, with B a booking, SET the items of a list, S a session, K a step and R a
-/// response. SET is spelled in its maximal runs, as `0-3 7`, with a space between each two. The last line may lack its line feed. The text has at most 16,777,216
-/// bytes and is read to its end. Of several faulty lines the first is named. `Source` is given only
-/// if the source's count of faults rose.
+/// `begin B`, `begin B without SET`, `answer S K R`, `answer S K R for B`, `close S`,
+/// `close S for B`, `look S` or `exposure`, with B a booking, SET the items of a list, S a session,
+/// K a step and R a response. SET is spelled in its maximal runs, as `0-3 7`, with a space between
+/// each two. The last line may lack its line feed. The text has at most 16,777,216 bytes and is
+/// read to its end. Of several faulty lines the first is named. `Source` is given only if the
+/// source's count of faults rose.
 pub fn read_script<S: Source>(alloc: Global, source: &mut S) -> Result<Vec<Request>, ScriptFault>
     ensures found { IfOk result (λ v. IsTrue (S.tells source.old)
         → IsScript (S.left source.old) v.items) }

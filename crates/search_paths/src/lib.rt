@@ -1,7 +1,8 @@
-//! What the search of the assembler is proved to keep: each path that waits for its subtree has the state of some path of
-//! branches, and the form that it hands over is a form.
+//! What the search of the assembler is proved to keep: each path that waits for its subtree has the
+//! state of some path of branches, and the form that it hands over is a form.
 //!
-//! The functions are small and have clauses; the search itself, which calls them, promises only safety.
+//! The functions are small and have clauses; the search itself, which calls them, promises only
+//! safety.
 #![tactic(auto)]
 
 mod paths;

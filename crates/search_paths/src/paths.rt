@@ -11,7 +11,8 @@ use constraint_model::Problem;
 use lagrange_bound::Cut;
 use proof_tree::{Memory, is_branch};
 
-/// A path that waits for its subtree: how deep it is, and the place of the vector that the steps there begin with.
+/// A path that waits for its subtree: how deep it is, and the place of the vector that the steps
+/// there begin with.
 #[derive(Debug, Drop)]
 pub struct Waiting {
     pub cut: Cut,
@@ -40,7 +41,8 @@ pub fn next_path(problem: &Problem, waiting: &mut Vec<Waiting>) -> Option<Waitin
     waiting.pop()
 }
 
-/// The path below a branch, on its first side or the other; the path itself where it can't branch so.
+/// The path below a branch, on its first side or the other; the path itself where it can't branch
+/// so.
 pub fn below(problem: &Problem, cut: &Cut, node: &Node, first: bool) -> Cut
     requires well_made { IsWellMade (problem_of problem.now) }
     requires cut { IsCut (problem_of problem.now) cut.now }

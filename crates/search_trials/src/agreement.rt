@@ -1,4 +1,5 @@
-//! The search, the fallback search and the enumeration on small banks. What is expected was worked out by hand.
+//! The search, the fallback search and the enumeration on small banks. What is expected was worked
+//! out by hand.
 
 ghost use Rattle.form_model.specs.Validity.{IsPlanFor, IsWellMade};
 ghost use Rattle.constraint_model.specs.Views.{problem_of};

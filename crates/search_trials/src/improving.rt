@@ -14,7 +14,8 @@ use proof_tree::Vector;
 use std::alloc::Global;
 use std::process::Abort;
 
-/// The bound at the root without multipliers, and that of the vector to which steps towards a target lead.
+/// The bound at the root without multipliers, and that of the vector to which steps towards a
+/// target lead.
 fn bounds_at_root<R: Abort>(
     rt: &R,
     alloc: Global,
@@ -51,10 +52,11 @@ pub(crate) fn expect_bound<R: Abort>(
     assert!(rt; improved <= i64::from(high));
 }
 
-/// The three items of most information, 2, 1 and 5, have 9 + 8 + 7 = 24, and 256 * 24 = 6,144. Items 2 and 5 are enemies: with
-/// the multiplier 256 on their upper bound they have 8 and 6, the greatest are 8, 8 and 6, and the bound is
-/// 256 * (8 + 8 + 6) + 256 * 1 = 5,888. That is 256 times the 23 of the form {1, 2, 3}, so no bound is lower, and one of at
-/// most 256 * 23 + 255 = 6,143 shows that form best.
+/// The three items of most information, 2, 1 and 5, have 9 + 8 + 7 = 24, and 256 * 24 = 6,144.
+/// Items 2 and 5 are enemies: with the multiplier 256 on their upper bound they have 8 and 6, the
+/// greatest are 8, 8 and 6, and the bound is 256 * (8 + 8 + 6) + 256 * 1 = 5,888. That is 256 times
+/// the 23 of the form {1, 2, 3}, so no bound is lower, and one of at most 256 * 23 + 255 = 6,143
+/// shows that form best.
 const LOWER: [Trial; 1] = [(Setting::Plain(1), &[], Question::Bound(6_144, 5_888, 6_143))];
 
 #[test]

@@ -1,7 +1,8 @@
-//! The program `series_bench`: `series_bench BANK PLAN K WEIGHTS` looks for a series of K forms, WEIGHTS being numbers parted by
-//! commas, and prints it with its tree and the bound of all series. With the word `plain` before them the tree has
-//! only what `series_check` judges; with `quiet` no tree is printed. It is proved safe. What it prints is not tested here: judge it
-//! by `tools/check_series.py BANK PLAN K WEIGHTS --printed FILE`.
+//! The program `series_bench`: `series_bench BANK PLAN K WEIGHTS` looks for a series of K forms,
+//! WEIGHTS being numbers parted by commas, and prints it with its tree and the bound of all series.
+//! With the word `plain` before them the tree has only what `series_check` judges; with `quiet` no
+//! tree is printed. It is proved safe. What it prints is not tested here: judge it by
+//! `tools/check_series.py BANK PLAN K WEIGHTS --printed FILE`.
 #![tactic(auto)]
 
 use anyhow::{Context, Result, bail};

@@ -146,7 +146,8 @@ items_counted k n X apart = by_items k n X (λ _. 1) ∙ each n
     each zero = refl
     each (suc n) = let rest = each n in let last = counted_once k (λ f. X f n) (λ f g u v. apart f g n u v) in omega arith
 
--- ---- of the sets that have M and otherwise members of F, as many as M and T together, that of M and T has the greatest sum
+-- ---- of the sets that have M and otherwise members of F, as many as M and T together, that of M
+-- and T has the greatest sum
 pub set_at_most : (n : ℕ) (M F T U : Set) (C : ℕ → ℤ) (t : ℤ)
     → ((i : ℕ) → i < n → T i ≡ true → t ≤ℤ C i)
     → ((i : ℕ) → i < n → F i ≡ true → T i ≡ false → C i ≤ℤ t)

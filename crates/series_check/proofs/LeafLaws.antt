@@ -1,5 +1,5 @@
 -- Leaves that close a path.
-use Rattle.std.proofs.Common.{◌≡◌, ℕ, ◌+◌, ◌*◌, ◌<◌, ◌≤◌, inl, inr, Bool, true, false, cond, ℤ, pos, int_lt, refl, sym, ap, ◌∙◌, subst, arith}
+use Rattle.std.proofs.Common.{◌≡◌, ℕ, ◌<◌, inl, inr, Bool, true, false, ℤ, int_lt, sym, ap, ◌∙◌, arith}
 use Rattle.std.specs.Prelude.{◌↔◌, IsTrue, ◌<ℤ◌}
 use Rattle.std.proofs.lemmas.Int.{ints}
 use Rattle.std.proofs.Math.Bool.{true≢false}
@@ -9,7 +9,7 @@ use Rattle.form_model.proofs.SumLaws.{either}
 use Rattle.series_model.specs.Series.{SeriesProblem}
 use Rattle.series_model.specs.SeriesPaths.{SeriesPath}
 use Rattle.series_model.specs.SeriesTrees.{names_pool}
-use Rattle.series_model.specs.SeriesBounds.{points, IsSeriesMaximum}
+use Rattle.series_model.specs.SeriesBounds.{points}
 use Rattle.series_model.specs.SeriesPools.{least_of_pool, IsPoolMaximum, IsMaximumBy}
 use Rattle.series_model.specs.SeriesVerdicts.{MaximumIsBelow}
 use Rattle.series_check.specs.Points.{points_at, least_at}

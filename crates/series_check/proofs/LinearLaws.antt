@@ -1,4 +1,5 @@
--- The Lagrangian of a form is linear in its items and stimuli, and greatest where the greatest weights are taken.
+-- The Lagrangian of a form is linear in its items and stimuli, and greatest where the greatest
+-- weights are taken.
 use Rattle.std.proofs.Common.{◌≡◌, ℕ, zero, suc, ◌+◌, ◌*◌, ◌<◌, ◌⊎◌, inl, inr, Bool, true, false, cond, not, ◌&&◌, ◌||◌, ◌==◌, length, ℤ, pos, ◌+ℤ◌, ◌-ℤ◌, ◌*ℤ◌, ◌≤ℤ◌, int_lt, refl, sym, ap, ◌∙◌, arith}
 use Rattle.std.specs.Int.{int_max}
 use Rattle.std.proofs.lemmas.Int.{ints}
@@ -47,7 +48,8 @@ none_below (suc n) f h = omega (arith, ints, none_below n f (λ i w. h i (omega 
 times_zero : (m : ℤ) → m *ℤ pos 0 ≡ pos 0
 times_zero m = omega (arith, ints)
 
--- ---- without links the Lagrangian is linear: seen on a path where every stimulus is chosen, so that no item has a link
+-- ---- without links the Lagrangian is linear: seen on a path where every stimulus is chosen, so
+-- that no item has a link
 module _ (P : Problem) (v : Multipliers) where
   all_chosen : Path
   all_chosen = record { taken = λ _. false; out = λ _. false; branched_on = λ _. true }

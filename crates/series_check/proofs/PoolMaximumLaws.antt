@@ -1,5 +1,6 @@
--- The relaxed maximum of the pool: the greatest counts that fill the forms, each item in the form where it counts most.
-use Rattle.std.proofs.Common.{◌≡◌, ℕ, suc, ◌+◌, ◌*◌, ◌<◌, ◌⊎◌, inl, inr, Bool, true, false, cond, not, ◌&&◌, ◌||◌, ◌==◌, List, ℤ, pos, ◌+ℤ◌, ◌-ℤ◌, ◌*ℤ◌, ◌≤ℤ◌, int_lt, refl, sym, ap, ◌∙◌, subst, arith, nat_lt}
+-- The relaxed maximum of the pool: the greatest counts that fill the forms, each item in the form
+-- where it counts most.
+use Rattle.std.proofs.Common.{◌≡◌, ℕ, suc, ◌+◌, ◌*◌, ◌<◌, ◌⊎◌, inl, inr, Bool, true, false, cond, not, ◌&&◌, ◌||◌, ◌==◌, ℤ, pos, ◌+ℤ◌, ◌*ℤ◌, ◌≤ℤ◌, int_lt, refl, sym, ap, ◌∙◌, subst, arith, nat_lt}
 use Rattle.std.proofs.lemmas.Int.{ints}
 use Rattle.std.proofs.lemmas.Bool.{and_parts, and_from, lt-ltb, ltb-true, eq-eqb, eqb-true, ne_eqb, cases_eq}
 use Rattle.std.proofs.Math.Bool.{true≢false}
@@ -7,7 +8,6 @@ use Rattle.bank_tables.specs.Items.{Set, has}
 use Rattle.bank_tables.specs.Sums.{any_below, sum_in_z, total_z}
 use Rattle.bank_tables.specs.Tables.{size}
 use Rattle.form_model.specs.Forms.{size_in, stimuli_of}
-use Rattle.form_model.specs.Problem.{Problem}
 use Rattle.form_model.proofs.SumLaws.{either, or_true, or_left, or_right, any_intro, any_elim, sum_in-le}
 use Rattle.certificate_model.specs.Paths.{is_chosen, is_open}
 use Rattle.certificate_model.specs.Ranges.{at}
@@ -21,7 +21,6 @@ use Rattle.series_model.specs.Series.{SeriesProblem, Forms}
 use Rattle.series_model.specs.SeriesBounds.{form_lagrangian, uses}
 use Rattle.series_model.specs.SeriesPaths.{SeriesPath, form_problem, form_path, in_another, is_free_in, is_placed, is_live, is_use_lost}
 use Rattle.series_model.specs.SeriesPools.{length_side, length_slack, pool_size, pool_lagrangian, ArePooled, IsPoolMaximum}
-use Rattle.series_model.proofs.SeriesSums.{every}
 use Rattle.series_model.proofs.UseLaws.{in_some, union_counts}
 use Rattle.series_check.specs.declared.pool.Part.{Part}
 use Rattle.series_check.specs.Gains.{gain_of}

@@ -1,20 +1,19 @@
 -- The parts of the pool, one form after the other.
-use Rattle.std.proofs.Common.{◌≡◌, ℕ, suc, ◌+◌, ◌*◌, ◌<◌, ◌⊎◌, inl, inr, Bool, true, false, cond, not, ◌&&◌, ◌||◌, List, get_or, Option, Some, None, IfSome, ℤ, pos, ◌+ℤ◌, ◌-ℤ◌, ◌*ℤ◌, ◌≤ℤ◌, refl, sym, ap, ◌∙◌, subst, arith}
+use Rattle.std.proofs.Common.{◌≡◌, ℕ, suc, ◌+◌, ◌*◌, ◌<◌, ◌⊎◌, inl, inr, Bool, true, false, cond, not, ◌&&◌, ◌||◌, Option, Some, None, ℤ, pos, ◌+ℤ◌, ◌-ℤ◌, ◌*ℤ◌, ◌≤ℤ◌, refl, sym, ap, ◌∙◌, subst, arith}
 use Rattle.std.proofs.lemmas.Int.{ints}
 use Rattle.std.proofs.lemmas.Bool.{cases_lt}
 use Rattle.std.proofs.lemmas.List.{get_or-replicate, get_or_past, length-replicate}
 use Rattle.std.proofs.Math.ListN.{replicate}
 use Rattle.std.proofs.Math.Bool.{true≢false}
 use Rattle.bank_tables.specs.Items.{Set, has}
-use Rattle.bank_tables.specs.Sums.{any_below, sum_in_z, total_z}
+use Rattle.bank_tables.specs.Sums.{total_z}
 use Rattle.bank_tables.specs.Tables.{size}
-use Rattle.form_model.specs.Forms.{size_in, stimuli_of}
+use Rattle.form_model.specs.Forms.{stimuli_of}
 use Rattle.form_model.proofs.SumLaws.{any_intro}
 use Rattle.certificate_model.specs.Ranges.{IsWithin, at}
 use Rattle.certificate_model.specs.Paths.{Path}
 use Rattle.certificate_model.specs.Relaxed.{Multipliers, multiplier}
 use Rattle.certificate_model.specs.Weights.{price, rows_constant}
-use Rattle.certificate_check.specs.Tops.{IsTopOf}
 use Rattle.series_model.specs.Series.{SeriesProblem}
 use Rattle.series_model.specs.SeriesBounds.{uses}
 use Rattle.series_model.specs.SeriesPaths.{SeriesPath, form_problem, form_path, is_placed, is_use_lost}
@@ -22,7 +21,7 @@ use Rattle.series_model.specs.SeriesPools.{length_side, IsPoolMaximum}
 use Rattle.series_check.specs.declared.pool.Part.{Part}
 use Rattle.series_check.specs.Gains.{gain_of}
 use Rattle.series_check.specs.Maximum.{IsAnswer}
-use Rattle.series_check.specs.Pools.{share_top, own_multiplier, holds, count_at, share_of, CountsIn, IsPart, IsPoolTo, held_count, IsGreater, IsJoined, others_of, IsFilled}
+use Rattle.series_check.specs.Pools.{share_top, own_multiplier, holds, count_at, share_of, CountsIn, IsPart, IsPoolTo, IsGreater, IsJoined, others_of, IsFilled}
 use Rattle.series_check.specs.Tops.{item_top}
 use Rattle.series_check.specs.Values.{AreApart}
 use Rattle.series_check.proofs.PoolMaximumLaws.{none_filled, pool_is}

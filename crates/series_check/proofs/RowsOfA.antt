@@ -1,4 +1,5 @@
--- Six items without stimuli, in two forms: a plan that no series meets, and a series of two items a form that is best.
+-- Six items without stimuli, in two forms: a plan that no series meets, and a series of two items a
+-- form that is best.
 use Rattle.std.proofs.Common.{◌≡◌, ℕ, zero, suc, ◌*◌, ◌≤◌, ◌<◌, inl, inr, Bool, true, false, not, ◌&&◌, List, [], ◌∷◌, length, ℤ, pos, negsuc, ◌≤ℤ◌, None, Some, refl, sym, arith}
 use Rattle.std.specs.Prelude.{replicate}
 use Rattle.std.specs.List.{list_all}

@@ -18,7 +18,8 @@ none_below from k (pair ∷ pairs) is low =
       | inr (e, other) ↦ rw e (none_below (pair.0 + 1) k pairs is.3 (omega (arith, is.0)))
     ]
 
--- the sides below `from` have their multipliers, and what is left of the vector names those of the others
+-- the sides below `from` have their multipliers, and what is left of the vector names those of the
+-- others
 pub record IsRead (v left : Multipliers) (sides : List ℕ) (from : ℕ) : Type 0 where
   pub vector : Ascends from left
   pub below : (k : ℕ) → k < from → get_or sides k 0 ≡ multiplier v k

@@ -24,7 +24,8 @@ path_of c = record { taken = λ f. has (get_or c.taken f []); out = λ f. has (g
 abbrev pub form_path_of : Standing → Path
 form_path_of s = record { taken = has s.taken; out = has s.out; branched_on = λ _. false }
 
--- on the path of a form: the items free, and those taken or free; the stimuli chosen, open, and either
+-- on the path of a form: the items free, and those taken or free; the stimuli chosen, open, and
+-- either
 pub record IsStanding (P : Problem) (s : Standing) : Type 0 where
   pub free : has s.free ≡ is_free P (form_path_of s)
   pub may_hold : has s.may_hold ≡ taken_or_free P (form_path_of s)

@@ -1,4 +1,5 @@
--- The relaxed maximum as the code finds it, from the multipliers M of all sides and the multipliers N of one form's rows.
+-- The relaxed maximum as the code finds it, from the multipliers M of all sides and the multipliers
+-- N of one form's rows.
 use Rattle.std.specs.Prelude.{◌≡◌, ℕ, suc, Bool, true, cond, List, slice_index, ℤ, pos, ◌+ℤ◌, ◌-ℤ◌, ◌≤ℤ◌, Option, Some, None}
 use Rattle.bank_tables.specs.Items.{Set}
 use Rattle.bank_tables.specs.Sums.{sum_in, sum_in_z}
@@ -49,7 +50,8 @@ abbrev pub IsFormAnswer : SeriesProblem → SeriesPath → Multipliers → Bool 
 IsFormAnswer Q p v ray f (Some r) = IsFormMaximum Q p v ray f r
 IsFormAnswer Q p v ray f None = (X Z : Set) → IsRelaxedPair (form_problem Q) (form_path Q p f) X Z → ⊥
 
--- the number is the relaxed maximum of all forms by the rule of the pool, or of each form for itself, or there is none
+-- the number is the relaxed maximum of all forms by the rule of the pool, or of each form for
+-- itself, or there is none
 abbrev pub IsAnswer : Bool → SeriesProblem → SeriesPath → Multipliers → Bool → Option ℤ → Type 0
 IsAnswer pool Q p v ray (Some r) = IsMaximumBy pool Q p v ray r
 IsAnswer pool Q p v ray None = (r : ℤ) → IsMaximumBy pool Q p v ray r → ⊥

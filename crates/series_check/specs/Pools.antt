@@ -1,5 +1,5 @@
 -- The relaxed maximum of the pool in parts, one for each form.
-use Rattle.std.specs.Prelude.{◌≡◌, ℕ, suc, ◌+◌, ◌*◌, ◌<◌, ◌⊎◌, Bool, cond, not, ◌&&◌, ◌||◌, IsTrue, List, Option, Some, None, ℤ, pos, ◌+ℤ◌, ◌*ℤ◌, ◌-ℤ◌, ◌≤ℤ◌}
+use Rattle.std.specs.Prelude.{◌≡◌, ℕ, suc, ◌+◌, ◌*◌, ◌<◌, ◌⊎◌, Bool, cond, not, ◌&&◌, ◌||◌, IsTrue, Option, Some, None, ℤ, pos, ◌+ℤ◌, ◌*ℤ◌, ◌-ℤ◌, ◌≤ℤ◌}
 use Rattle.bank_tables.specs.Items.{Set, has}
 use Rattle.bank_tables.specs.Sums.{any_below, sum_in_z, total_z}
 use Rattle.bank_tables.specs.Tables.{Tables, size}
@@ -38,7 +38,8 @@ holds Q p f = taken_or_free (form_problem Q) (form_path Q p f)
 abbrev pub count_at : SeriesProblem → Multipliers → Bool → ℕ → ℕ → ℤ
 count_at Q v ray f i = weight_at Q (multiplier v) (own_multiplier v f) ray f i -ℤ price (multiplier v) (length_side f)
 
--- what form f adds beside its items: its length times that price, the constant of its rows, and what its stimuli add
+-- what form f adds beside its items: its length times that price, the constant of its rows, and
+-- what its stimuli add
 abbrev pub share_of : SeriesProblem → SeriesPath → Multipliers → ℕ → ℤ
 share_of Q p v f =
     (price (multiplier v) (length_side f) *ℤ pos Q.plan.length)
@@ -56,7 +57,8 @@ pub record CountsIn (Q : SeriesProblem) (p : SeriesPath) (v : Multipliers) (ray 
   pub holder : IsTrue (holds Q p f i)
   pub count : c ≡ count_at Q v ray f i
 
--- the parts of the forms below k together: of each item the greatest count in a form that has it or may have it
+-- the parts of the forms below k together: of each item the greatest count in a form that has it or
+-- may have it
 pub record IsPoolTo (Q : SeriesProblem) (p : SeriesPath) (v : Multipliers) (ray : Bool) (k : ℕ) (part : Part) : Type 0 where
   pub holders : (i : ℕ) → has part.holds i ≡ any_below k (λ f. holds Q p f i)
   pub reached : (i : ℕ) → i < size Q.bank → IsTrue (has part.holds i) → (f : ℕ) × CountsIn Q p v ray k i (at part.counts i) f
@@ -90,8 +92,8 @@ pub record IsJoined (n : ℕ) (first second part : Part) : Type 0 where
 abbrev pub others_of : Part → Set → Set
 others_of part sure i = has part.holds i && not (sure i)
 
--- r is what is beside the items, with the counts of the sure items and the greatest counts of others, so many in all; without r
--- there are not so many items
+-- r is what is beside the items, with the counts of the sure items and the greatest counts of
+-- others, so many in all; without r there are not so many items
 abbrev pub IsFilled : Tables → ℕ → Part → Set → Option ℤ → Type 0
 IsFilled b all part sure None = (all < size_in b sure) ⊎ (size_in b sure + size_in b (others_of part sure) < all)
 IsFilled b all part sure (Some r) =

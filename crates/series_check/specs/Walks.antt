@@ -16,7 +16,8 @@ abbrev pub AreBelow : SeriesProblem → SeriesPath → SeriesNode → Option (Se
 AreBelow Q p node (Some cuts) = (below Q p node ≡ path_of cuts.0 ∷ path_of cuts.1 ∷ []) × (children node ≡ 2)
 AreBelow Q p node None = (below Q p node ≡ []) × (children node ≡ 0)
 
--- the subtree at place `at` ends before place `next` with `after` Open leaves so far, and gives what the rest gives
+-- the subtree at place `at` ends before place `next` with `after` Open leaves so far, and gives
+-- what the rest gives
 pub record Passes (Q : SeriesProblem) (U : Option ℕ) (T : Certificate) (at met : ℕ) (p : SeriesPath) (next after : ℕ) : Type 0 where
   pub on : at < next
   pub within : next ≤ length T.nodes

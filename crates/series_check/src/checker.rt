@@ -61,10 +61,12 @@ fn judged_with(
     judged(setting, &Some(bar), tree)
 }
 
-/// What a series tree shows, with a series or none: `Optimal`, no series has a greater value, or, where a number is given in
-/// place of the value, none has a value above that number; `NoSeries`, there is no series.
+/// What a series tree shows, with a series or none: `Optimal`, no series has a greater value, or,
+/// where a number is given in place of the value, none has a value above that number; `NoSeries`,
+/// there is no series.
 ///
-/// The weights are those of the grid's points, each at most 1,000 and one above 0; `forms` is 1 to 4. Takes no memory.
+/// The weights are those of the grid's points, each at most 1,000 and one above 0; `forms` is 1 to
+/// 4. Takes no memory.
 pub fn check_series(
     bank: &Bank,
     spec: &Spec,

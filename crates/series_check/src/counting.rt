@@ -23,7 +23,8 @@ fn length_impossible(setting: &Setting, standing: &Standing) -> bool
     length < taken || may_hold < length
 }
 
-/// Whether what is taken exceeds the upper bound of a row, or what is taken or free is below its lower bound.
+/// Whether what is taken exceeds the upper bound of a row, or what is taken or free is below its
+/// lower bound.
 fn row_impossible(setting: &Setting, standing: &Standing, row: &Row) -> bool
     requires row { IsRow setting.now.bank.now row.now }
     requires standing { IsStanding (one_form setting.now) standing.now }
@@ -49,8 +50,8 @@ fn stimulus_impossible(setting: &Setting, standing: &Standing, which: u8) -> boo
     bound.high < least || standing.chosen.has(which as u16) && most < bound.low
 }
 
-/// Whether a row of a form, by number, is impossible by counting: 0 is the length, then come the rows of the plan and the
-/// stimuli.
+/// Whether a row of a form, by number, is impossible by counting: 0 is the length, then come the
+/// rows of the plan and the stimuli.
 pub fn is_impossible(setting: &Setting, standing: &Standing, row: u8) -> bool
     requires problem { IsSeriesProblem (problem_of setting.now) }
     requires standing { IsStanding (one_form setting.now) standing.now }

@@ -1,6 +1,6 @@
 //! What the stimuli of a form add.
 
-ghost use Rattle.std.specs.Prelude.{◌≡◌, ℕ, suc, ◌+◌, ◌*◌, ◌<◌, ◌≤◌, length, slice_index};
+ghost use Rattle.std.specs.Prelude.{◌≡◌, suc, ◌+◌, ◌*◌, ◌<◌, ◌≤◌, length, slice_index};
 ghost use Rattle.bank_tables.specs.Sums.{total_z};
 ghost use Rattle.form_model.specs.Forms.{stimuli_of};
 ghost use Rattle.certificate_model.specs.Ranges.{IsWithin};
@@ -13,7 +13,8 @@ use crate::rows::{stimulus_rows, stimulus_weight};
 use crate::setting::Setting;
 use crate::standing::Standing;
 
-/// What a stimulus adds: its weight if it is chosen; if it is open, the greater of 0 and its weight.
+/// What a stimulus adds: its weight if it is chosen; if it is open, the greater of 0 and its
+/// weight.
 fn gain(setting: &Setting, standing: &Standing, sides: &[u32; 384], rows: i128, which: u8) -> i128
     requires problem { IsSeriesProblem (problem_of setting.now) }
     requires standing { IsStanding (one_form setting.now) standing.now }

@@ -1,6 +1,6 @@
 //! The weighted information of an item at the points of a form, each times its multiplier.
 
-ghost use Rattle.std.specs.Prelude.{◌≡◌, ℕ, ◌+◌, ◌*◌, ◌/◌, ◌<◌, ◌≤◌, cond, true, slice_index};
+ghost use Rattle.std.specs.Prelude.{◌≡◌, ◌+◌, ◌*◌, ◌/◌, ◌<◌, ◌≤◌, cond, true, slice_index};
 ghost use Rattle.bank_tables.specs.Sums.{sum_in};
 ghost use Rattle.bank_tables.specs.Tables.{size};
 ghost use Rattle.series_model.specs.Series.{IsSeriesProblem};
@@ -10,7 +10,8 @@ ghost use Rattle.series_check.specs.Points.{point_term, points_at, least_term, l
 
 use crate::setting::Setting;
 
-/// What one grid point adds: its multiplier times its weight times the information; 0 where the point doesn't count.
+/// What one grid point adds: its multiplier times its weight times the information; 0 where the
+/// point doesn't count.
 fn point_term(setting: &Setting, sides: &[u32; 2315], form: u8, point: u8, item: u16) -> u128
     requires problem { IsSeriesProblem (problem_of setting.now) }
     requires form { form < 4 }
@@ -86,7 +87,8 @@ fn least_above(weight: u32, bar: u64) -> u128
     weight as u128 * (times as u128 + 1)
 }
 
-/// The least weighted information above a number at a grid point, times its multiplier; 0 where the point doesn't count.
+/// The least weighted information above a number at a grid point, times its multiplier; 0 where the
+/// point doesn't count.
 fn least_term(setting: &Setting, sides: &[u32; 2315], form: u8, point: u8, bar: u64) -> u128
     requires problem { IsSeriesProblem (problem_of setting.now) }
     requires form { form < 4 }

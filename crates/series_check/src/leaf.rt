@@ -31,7 +31,8 @@ fn is_point_side(setting: &Setting, side: u16) -> bool
     side / 64 < setting.forms as u16 && side % 64 < setting.bank.grid() as u16
 }
 
-/// Whether a side from 256 to 767 is one of the common use of an item; a vector of the pool may name none.
+/// Whether a side from 256 to 767 is one of the common use of an item; a vector of the pool may
+/// name none.
 fn is_use_side(setting: &Setting, pool: bool, side: u16) -> bool
     requires problem { IsSeriesProblem (problem_of setting.now) }
     requires first { 256 ≤ side }
@@ -53,7 +54,8 @@ fn is_row_side(setting: &Setting, side: u16) -> bool
     (side - 768) / 384 < setting.forms as u16 && (own as usize) < 2 * rows
 }
 
-/// Whether a side from 2,304 on is one of the length of a form, or the mark, which a vector of the pool alone may name.
+/// Whether a side from 2,304 on is one of the length of a form, or the mark, which a vector of the
+/// pool alone may name.
 fn is_pool_side(setting: &Setting, pool: bool, side: u16) -> bool
     requires problem { IsSeriesProblem (problem_of setting.now) }
     requires first { 2304 ≤ side }

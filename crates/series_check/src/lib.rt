@@ -1,7 +1,7 @@
-//! The separate checker of series trees: small, and apart from every searcher. Upward it promises that its verdict is the one
-//! by definition, that `Optimal` means that no series has a value above that of the series, or above the number given, and
-//! that `NoSeries` means that there is no series. It takes no memory, never searches, and calls no code of what makes the
-//! trees.
+//! The separate checker of series trees: small, and apart from every searcher. Upward it promises
+//! that its verdict is the one by definition, that `Optimal` means that no series has a value above
+//! that of the series, or above the number given, and that `NoSeries` means that there is no
+//! series. It takes no memory, never searches, and calls no code of what makes the trees.
 #![tactic(auto)]
 
 mod checker;

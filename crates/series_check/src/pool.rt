@@ -27,8 +27,8 @@ use crate::value::are_apart;
 use bank_tables::ItemSet;
 use constraint_model::counts::size_in;
 
-/// What each item counts in a form, the items that the form has or may have, and what the form adds beside its items; or the
-/// same of several forms together, of each item the greatest count.
+/// What each item counts in a form, the items that the form has or may have, and what the form adds
+/// beside its items; or the same of several forms together, of each item the greatest count.
 #[derive(Clone, Copy)]
 pub struct Part {
     pub counts: [i128; 512],
@@ -180,8 +180,9 @@ fn pool_of(setting: &Setting, cut: &SeriesCut, sides: &[u32; 2315], ray: bool) -
     pool
 }
 
-/// The relaxed maximum of a pool where the sure items are taken, and of the others those of the greatest counts. There is none where
-/// the sure items are too many, or all that may be taken are too few.
+/// The relaxed maximum of a pool where the sure items are taken, and of the others those of the
+/// greatest counts. There is none where the sure items are too many, or all that may be taken are
+/// too few.
 fn filled(setting: &Setting, pool: &Part, sure: &ItemSet) -> Option<i128>
     requires problem { IsSeriesProblem (problem_of setting.now) }
     requires near { IsPartNear (size setting.now.bank.now) rest_top pool.now }

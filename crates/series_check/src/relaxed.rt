@@ -86,7 +86,8 @@ pub fn weights(
     weights
 }
 
-/// The constant, the weights of the items taken and of the greatest free ones, and what the stimuli add.
+/// The constant, the weights of the items taken and of the greatest free ones, and what the stimuli
+/// add.
 fn form_value(
     setting: &Setting,
     standing: &Standing,

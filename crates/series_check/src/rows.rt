@@ -7,7 +7,7 @@ ghost use Rattle.bank_tables.specs.Validity.{IsBank};
 ghost use Rattle.form_model.specs.Forms.{stimuli_of};
 ghost use Rattle.certificate_model.specs.Ranges.{IsWithin};
 ghost use Rattle.form_model.specs.Validity.{IsRow};
-ghost use Rattle.certificate_model.specs.Weights.{price, bounds_price, item_activity, stimulus_activity, constant_share, item_share, stimulus_share, price_of_stimulus, item_weight, stimulus_weight, rows_constant};
+ghost use Rattle.certificate_model.specs.Weights.{price, bounds_price, item_activity, stimulus_activity, item_share, stimulus_share, price_of_stimulus, item_weight, stimulus_weight, rows_constant};
 ghost use Rattle.series_model.specs.Series.{IsSeriesProblem};
 ghost use Rattle.series_check.specs.Cuts.{problem_of, one_form};
 ghost use Rattle.series_check.specs.Gains.{stimulus_top};
@@ -55,7 +55,8 @@ fn product(multiplier: u32, bound: u32) -> i128
     (multiplier as u64 * bound as u64) as i128
 }
 
-/// The upper bound times the multiplier of the high side, less the lower bound times that of the low side.
+/// The upper bound times the multiplier of the high side, less the lower bound times that of the
+/// low side.
 fn bounds_price(sides: &[u32; 384], side: usize, low: u32, high: u32) -> i128
     requires side { side + 1 < 384 }
     requires low { low ≤ 33553920 }

@@ -13,7 +13,8 @@ use crate::setting::Setting;
 use bank_tables::{Bank, ItemSet};
 use constraint_model::counts::stimuli_used;
 
-/// The path of one form: the items taken and out, those free, those taken or free, and the stimuli chosen, open, and either.
+/// The path of one form: the items taken and out, those free, those taken or free, and the stimuli
+/// chosen, open, and either.
 #[derive(Clone, Copy)]
 pub struct Standing {
     pub taken: ItemSet,

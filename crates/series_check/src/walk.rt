@@ -18,7 +18,8 @@ pub struct Walked {
     pub open_leaves: u16,
 }
 
-/// Walks through the subtree at a node whose path is given; an error is the number of the first unsound node.
+/// Walks through the subtree at a node whose path is given; an error is the number of the first
+/// unsound node.
 pub fn walk(
     setting: &Setting,
     bar: &Option<u64>,

@@ -44,7 +44,8 @@ sum_in-times (suc n) X f c =
     let rest = sum_in-times n X f c in
     elim (either (X n)) [ inl member ↦ rw member (omega arith) | inr other ↦ rw other (omega arith) ]
 
--- what each item weighs at the points, summed over items, is what the items have at each point, weighed
+-- what each item weighs at the points, summed over items, is what the items have at each point,
+-- weighed
 pub by_points : (n m : ℕ) (X C : Set) (a w : ℕ → ℕ) (h : ℕ → ℕ → ℕ)
     → sum_in n X (λ i. sum_in m C (λ g. a g * (w g * h i g))) ≡ sum_in m C (λ g. a g * (w g * sum_in n X (λ i. h i g)))
 by_points n zero X C a w h = sum_in-none n X

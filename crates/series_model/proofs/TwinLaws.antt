@@ -1,4 +1,5 @@
--- Forms in equal state may be exchanged: no series is lost where an item is put out of all of them but for the first.
+-- Forms in equal state may be exchanged: no series is lost where an item is put out of all of them
+-- but for the first.
 use Rattle.std.proofs.Common.{◌≡◌, ℕ, ◌<◌, ◌⊎◌, inl, inr, Bool, true, false, cond, not, ◌&&◌, ◌||◌, ◌==◌, Option, Some, None, refl, sym, ap, ◌∙◌, subst, nat_lt}
 use Rattle.std.proofs.lemmas.Bool.{and_parts, and_from, eqb-true, eq-eqb, ne_eqb, cases_eq}
 use Rattle.std.proofs.Math.Bool.{true≢false}
@@ -168,7 +169,8 @@ module _ (Q : SeriesProblem) (p : SeriesPath) (S : Forms) (on : OnPath Q p S) (f
               (exchange f g h, stays_below f g Q.forms h wf wg w, ap (λ (k : ℕ). S k i) (twice f g h) ∙ has);
         }
 
--- ---- the branch: a series is on the left path, or on the right one, or with two forms exchanged on the left one
+-- ---- the branch: a series is on the left path, or on the right one, or with two forms exchanged
+-- on the left one
 module _ (Q : SeriesProblem) (p : SeriesPath) (S : Forms) (on : OnPath Q p S) (f i : ℕ) where
   out_of_all : ((g : ℕ) → g < Q.forms → is_twin Q p f g ≡ true → S g i ≡ false) → OnPath Q (without_twins Q p f i) S
   out_of_all none =

@@ -1,5 +1,6 @@
--- Series of test forms that have no item in common, and the best series: the weakest form, by weighted information, is as
--- strong as any series allows (van der Linden, Linear Models for Optimal Test Design, 2005, chapter 6).
+-- Series of test forms that have no item in common, and the best series: the weakest form, by
+-- weighted information, is as strong as any series allows (van der Linden, Linear Models for
+-- Optimal Test Design, 2005, chapter 6).
 use Rattle.std.specs.Prelude.{◌≡◌, ℕ, ◌*◌, ◌≤◌, ◌<◌, List, [], length, get_or, IsTrue}
 use Rattle.bank_tables.specs.Items.{Set, has}
 use Rattle.bank_tables.specs.Tables.{Tables, size, info}
@@ -9,7 +10,8 @@ use Rattle.bank_tables.specs.Validity.{IsBank}
 use Rattle.form_model.specs.Forms.{Meets}
 use Rattle.form_model.specs.Validity.{IsPlanFor}
 
--- what a series is assembled for: an item bank, a plan, the weight of each grid point, and the number of forms
+-- what a series is assembled for: an item bank, a plan, the weight of each grid point, and the
+-- number of forms
 pub record SeriesProblem : Type 0 where
   pub bank : Tables
   pub plan : Plan
@@ -53,7 +55,8 @@ pub record HasNoSeries (Q : SeriesProblem) : Type 0 where
 
 -- ---- what a caller gives
 
--- the plan is valid for the bank, there are one to four forms, and each grid point has a weight, of which one is above 0
+-- the plan is valid for the bank, there are one to four forms, and each grid point has a weight, of
+-- which one is above 0
 pub record IsSeriesProblem (Q : SeriesProblem) : Type 0 where
   pub bank : IsBank Q.bank
   pub plan : IsPlanFor Q.bank Q.plan

@@ -1,5 +1,5 @@
--- The relaxed maximum of several forms: Lagrangian relaxation of the rows and stimuli of each form, and of the constraint
--- that an item is in one form at most.
+-- The relaxed maximum of several forms: Lagrangian relaxation of the rows and stimuli of each form,
+-- and of the constraint that an item is in one form at most.
 use Rattle.std.specs.Prelude.{◌≡◌, ℕ, ◌+◌, ◌-◌, ◌*◌, ◌<◌, Bool, true, ◌&&◌, cond, [], ◌∷◌, nat_lt, nat_le, ℤ, pos, ◌+ℤ◌, ◌-ℤ◌, ◌≤ℤ◌, if◌then◌else◌}
 use Rattle.bank_tables.specs.Items.{Set}
 use Rattle.bank_tables.specs.Tables.{size, info}
@@ -8,7 +8,8 @@ use Rattle.certificate_model.specs.Relaxed.{Multipliers, multiplier, lagrangian_
 use Rattle.series_model.specs.Series.{SeriesProblem, Forms, weight_of}
 use Rattle.series_model.specs.SeriesPaths.{SeriesPath, form_problem, form_path}
 
--- the side of form f at grid point g; its multiplier is the share of that form and point in the value
+-- the side of form f at grid point g; its multiplier is the share of that form and point in the
+-- value
 abbrev pub point_side : ℕ → ℕ → ℕ
 point_side f g = 64 * f + g
 
@@ -39,16 +40,18 @@ points_of Q v f = sum_in Q.bank.grid (counts Q) (λ g. multiplier v (point_side 
 abbrev pub points : SeriesProblem → Multipliers → ℕ
 points Q v = sum_in Q.forms (λ _. true) (points_of Q v)
 
--- the weighted information of item i at the points, each times its multiplier for form f; 0 for a ray
+-- the weighted information of item i at the points, each times its multiplier for form f; 0 for a
+-- ray
 abbrev pub information_of : SeriesProblem → Multipliers → Bool → ℕ → ℕ → ℕ
 information_of Q v ray f i = cond ray 0 (sum_in Q.bank.grid (counts Q) (λ g. multiplier v (point_side f g) * (weight_of Q g * info Q.bank i g)))
 
--- what item i adds in form f before its rows: that information, less the multiplier of its common use
+-- what item i adds in form f before its rows: that information, less the multiplier of its common
+-- use
 abbrev pub item_gain : SeriesProblem → Multipliers → Bool → ℕ → ℕ → ℤ
 item_gain Q v ray f i = pos (information_of Q v ray f i) -ℤ pos (multiplier v (use_side i))
 
--- the Lagrangian of form f at items X and stimuli Z: what the items add, and each slack of the form's rows and stimuli times
--- its multiplier
+-- the Lagrangian of form f at items X and stimuli Z: what the items add, and each slack of the
+-- form's rows and stimuli times its multiplier
 abbrev pub form_lagrangian : SeriesProblem → Multipliers → Bool → ℕ → Set → Set → ℤ
 form_lagrangian Q v ray f X Z = sum_in_z (size Q.bank) X (item_gain Q v ray f) +ℤ lagrangian_without_links (form_problem Q) (multipliers_of f v) true X Z
 
@@ -64,7 +67,8 @@ series_lagrangian Q v ray X Z = pos (uses Q v) +ℤ total_z Q.forms (λ f. form_
 abbrev pub AreRelaxed : SeriesProblem → SeriesPath → Forms → Forms → Type 0
 AreRelaxed Q p X Z = (f : ℕ) → f < Q.forms → IsRelaxedPair (form_problem Q) (form_path Q p f) (X f) (Z f)
 
--- r is the relaxed maximum: the greatest Lagrangian of relaxed pairs; there is none where there are no such pairs
+-- r is the relaxed maximum: the greatest Lagrangian of relaxed pairs; there is none where there are
+-- no such pairs
 pub record IsSeriesMaximum (Q : SeriesProblem) (p : SeriesPath) (v : Multipliers) (ray : Bool) (r : ℤ) : Type 0 where
   pub reached : (X : Forms) × (Z : Forms) × AreRelaxed Q p X Z × (series_lagrangian Q v ray X Z ≡ r)
   pub greatest : (X Z : Forms) → AreRelaxed Q p X Z → series_lagrangian Q v ray X Z ≤ℤ r

@@ -8,7 +8,8 @@ use Rattle.form_model.specs.Problem.{Problem, whole}
 use Rattle.certificate_model.specs.Paths.{Path, is_free}
 use Rattle.series_model.specs.Series.{SeriesProblem, Forms, IsSeries}
 
--- the items in each form, those put out of it, and the items that are used: each is to be in some form
+-- the items in each form, those put out of it, and the items that are used: each is to be in some
+-- form
 pub record SeriesPath : Type 0 where
   pub taken : ℕ → Set
   pub out : ℕ → Set
@@ -17,7 +18,8 @@ pub record SeriesPath : Type 0 where
 abbrev pub root : SeriesPath
 root = record { taken = λ _ _. false; out = λ _ _. false; used = λ _. false }
 
--- the problem that each form is to meet: the plan alone; the grid point of an estimate plays no part
+-- the problem that each form is to meet: the plan alone; the grid point of an estimate plays no
+-- part
 abbrev pub form_problem : SeriesProblem → Problem
 form_problem Q = whole Q.bank Q.plan 0
 
@@ -33,7 +35,8 @@ form_path Q p f = record { taken = p.taken f; out = λ i. p.out f i || in_anothe
 abbrev pub is_free_in : SeriesProblem → SeriesPath → ℕ → Set
 is_free_in Q p f = is_free (form_problem Q) (form_path Q p f)
 
--- a branch on an item and a form: it is in that form, and so out of the others, or it is put out of that form
+-- a branch on an item and a form: it is in that form, and so out of the others, or it is put out of
+-- that form
 abbrev pub with_form : SeriesPath → ℕ → ℕ → Bool → SeriesPath
 with_form p f i true = record p { taken = λ g j. (g == f && j == i) || p.taken g j }
 with_form p f i false = record p { out = λ g j. (g == f && j == i) || p.out g j }

@@ -1,5 +1,5 @@
--- The pool of a series: the items of all its forms together, each in one form. Lagrangian relaxation of the length of each form,
--- beside its rows and stimuli.
+-- The pool of a series: the items of all its forms together, each in one form. Lagrangian
+-- relaxation of the length of each form, beside its rows and stimuli.
 use Rattle.std.specs.Prelude.{◌≡◌, ℕ, ◌+◌, ◌*◌, ◌/◌, ◌≤◌, ◌<◌, ◌⊎◌, Bool, true, false, cond, IsTrue, ℤ, pos, ◌+ℤ◌, ◌-ℤ◌, ◌*ℤ◌, ◌≤ℤ◌}
 use Rattle.bank_tables.specs.Tables.{size}
 use Rattle.bank_tables.specs.Sums.{sum_in, total_z}
@@ -24,8 +24,9 @@ pool_mark = 2314
 abbrev pub pool_size : SeriesProblem → Forms → ℕ
 pool_size Q X = sum_in Q.forms (λ _. true) (λ f. size_in Q.bank (X f))
 
--- no item is in two of the forms X, which have together as many items as those of a series. Each has the items taken into it and
--- otherwise only free ones, and each used item is in one. Z are the stimuli chosen in each form, and otherwise only open ones
+-- no item is in two of the forms X, which have together as many items as those of a series. Each
+-- has the items taken into it and otherwise only free ones, and each used item is in one. Z are the
+-- stimuli chosen in each form, and otherwise only open ones
 pub record ArePooled (Q : SeriesProblem) (p : SeriesPath) (X Z : Forms) : Type 0 where
   pub n_items : pool_size Q X ≡ Q.forms * Q.plan.length
   pub apart : (f g i : ℕ) → f < Q.forms → g < Q.forms → IsTrue (X f i) → IsTrue (X g i) → f ≡ g

@@ -26,7 +26,8 @@ names_pool v = list_any (λ pair. nat_le 2304 pair.0) v
 abbrev pub is_moderate : Multipliers → Bool
 is_moderate v = names_pool v || list_all (λ pair. nat_le pair.1 16777216) v
 
--- the vectors of a tree: at most 255, each of at most 2,304 pairs with sides below 2,315, and at most 12,288 pairs in all
+-- the vectors of a tree: at most 255, each of at most 2,304 pairs with sides below 2,315, and at
+-- most 12,288 pairs in all
 pub record AreVectors (vs : List Multipliers) : Type 0 where
   pub few : length vs ≤ 255
   pub ascending : (v : ℕ) → v < length vs → Ascends 0 (get_or vs v [])

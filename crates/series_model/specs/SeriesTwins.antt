@@ -1,5 +1,5 @@
--- Forms in equal state on a path, which a series may exchange (orbital branching; Ostrowski, Linderoth, Rossi and Smriglio,
--- 2011).
+-- Forms in equal state on a path, which a series may exchange (orbital branching; Ostrowski,
+-- Linderoth, Rossi and Smriglio, 2011).
 use Rattle.std.specs.Prelude.{ℕ, Bool, not, ◌&&◌, ◌||◌, ◌==◌, nat_lt}
 use Rattle.bank_tables.specs.Items.{Set}
 use Rattle.bank_tables.specs.Sums.{any_below}

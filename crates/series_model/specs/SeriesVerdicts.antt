@@ -15,12 +15,14 @@ use Rattle.series_model.specs.SeriesTwins.{without_twins}
 use Rattle.series_model.specs.SeriesBounds.{point_side, use_side, first_side, points}
 use Rattle.series_model.specs.SeriesPools.{length_side, pool_mark, IsMaximumBy, goal_of}
 
--- the side is one of the common use of an item; by the rule of the pool, one of a form's length, or the mark
+-- the side is one of the common use of an item; by the rule of the pool, one of a form's length, or
+-- the mark
 abbrev pub IsCommonSide : SeriesProblem → Bool → ℕ → Type 0
 IsCommonSide Q false side = (i : ℕ) × (i < size Q.bank) × (side ≡ use_side i)
 IsCommonSide Q true side = ((s : ℕ) × (s < 2 * Q.forms) × (side ≡ length_side 0 + s)) ⊎ (side ≡ pool_mark)
 
--- the side is one of a form of the series at a grid point, one that the forms have in common, or one of a form's rows and stimuli
+-- the side is one of a form of the series at a grid point, one that the forms have in common, or
+-- one of a form's rows and stimuli
 abbrev pub IsSide : SeriesProblem → Bool → ℕ → Type 0
 IsSide Q pool side =
     ((f : ℕ) × (g : ℕ) × (f < Q.forms) × (g < Q.bank.grid) × (side ≡ point_side f g))
@@ -37,7 +39,8 @@ pub record MaximumIsBelow (Q : SeriesProblem) (p : SeriesPath) (v : Multipliers)
   pub is_maximum : IsMaximumBy (names_pool v) Q p v ray maximum
   pub below : maximum <ℤ top
 
--- some point that counts has a multiplier, and the relaxed maximum is too low for a series whose value is above U
+-- some point that counts has a multiplier, and the relaxed maximum is too low for a series whose
+-- value is above U
 abbrev pub ClosesByBound : SeriesProblem → Option ℕ → SeriesPath → Multipliers → Type 0
 ClosesByBound Q None p v = ⊥
 ClosesByBound Q (Some U) p v = (0 < points Q v) × MaximumIsBelow Q p v false (pos (goal_of Q v U))
@@ -68,7 +71,8 @@ IsCountedOut Q p f r =
     IsTrue (is_impossible (form_problem Q) (form_path Q p f) r)
     ⊎ ((r ≤ length Q.plan.rows + stimuli_of Q.bank) × IsTrue (is_use_lost Q p || are_uses_many Q p))
 
--- the node is sound on the path p, where no series with a value above U is sought, or no series at all
+-- the node is sound on the path p, where no series with a value above U is sought, or no series at
+-- all
 abbrev pub IsSound : SeriesProblem → Option ℕ → Certificate → SeriesPath → SeriesNode → Type 0
 IsSound Q U T p (Branch f i) = IsFormBranch Q p f i
 IsSound Q U T p (Bound v) = (v < length T.vectors) × NamesOnlySides Q (vector_at T v) × ClosesByBound Q U p (vector_at T v)
@@ -97,7 +101,8 @@ verdict_of U (suc met) = Partial (suc met)
 verdict_of (Some U) zero = Optimal
 verdict_of None zero = NoSeries
 
--- the verdict on the nodes from place `at` on, one subtree for each waiting path, with `met` Open leaves before
+-- the verdict on the nodes from place `at` on, one subtree for each waiting path, with `met` Open
+-- leaves before
 abbrev pub GivesFrom : SeriesProblem → Option ℕ → Certificate → ℕ → ℕ → List SeriesNode → List SeriesPath → SeriesVerdict → Type 0
 GivesFrom Q U T at met [] [] verdict = verdict ≡ verdict_of U met
 GivesFrom Q U T at met [] (p ∷ paths) verdict = ⊥
@@ -111,8 +116,8 @@ abbrev pub IsSeriesOrNone : SeriesProblem → Option (List (List ℕ)) → Type 
 IsSeriesOrNone Q (Some sets) = IsSeriesList Q sets
 IsSeriesOrNone Q None = Unit {0}
 
--- U is the number above which the tree shows that no series is: the one given, or the value of the series; without a series
--- there is none
+-- U is the number above which the tree shows that no series is: the one given, or the value of the
+-- series; without a series there is none
 abbrev pub IsBar : SeriesProblem → Option (List (List ℕ)) → Option ℕ → Option ℕ → Type 0
 IsBar Q None at_most U = U ≡ None
 IsBar Q (Some sets) (Some top) U = U ≡ Some top

@@ -2,8 +2,9 @@
 
 ghost use Rattle.series_model.specs.SeriesLaws.{SeriesDuality, SeriesRay, PoolDuality, PoolRay, SeriesCounting, SeriesUses, OptimalIsBestSeries, OptimalIsAtMost, NoSeriesIsNone, OneFormIsBest};
 
-/// No series on a path has a value above the relaxed maximum there over the sum of the multipliers of the points, whatever the
-/// multipliers (weak duality of Lagrangian relaxation; Geoffrion, Lagrangean Relaxation for Integer Programming, 1974).
+/// No series on a path has a value above the relaxed maximum there over the sum of the multipliers
+/// of the points, whatever the multipliers (weak duality of Lagrangian relaxation; Geoffrion,
+/// Lagrangean Relaxation for Integer Programming, 1974).
 pub fn series_duality()
     ensures { SeriesDuality }
 {}
@@ -13,8 +14,8 @@ pub fn series_ray()
     ensures { SeriesRay }
 {}
 
-/// No series on a path has a value above a number U where the relaxed maximum of the pool is below the least that the weighted
-/// information of such a series can be.
+/// No series on a path has a value above a number U where the relaxed maximum of the pool is below
+/// the least that the weighted information of such a series can be.
 pub fn pool_duality()
     ensures { PoolDuality }
 {}
@@ -29,8 +30,8 @@ pub fn series_counting()
     ensures { SeriesCounting }
 {}
 
-/// A used item that is in no form and free in none leaves no series on the path; nor do more items in forms and used than the
-/// forms have.
+/// A used item that is in no form and free in none leaves no series on the path; nor do more items
+/// in forms and used than the forms have.
 pub fn series_uses()
     ensures { SeriesUses }
 {}

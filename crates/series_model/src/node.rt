@@ -17,7 +17,7 @@ pub enum SeriesNode {
     Open,
     /// Left, the item is used: it is in exactly one form; right, it is in none.
     Use { item: u16 },
-    /// Left, the item is in the form; right, it is neither there nor in a form that has the same items and the same
-    /// free items.
+    /// Left, the item is in the form; right, it is neither there nor in a form that has the same
+    /// items and the same free items.
     Twin { form: u8, item: u16 },
 }

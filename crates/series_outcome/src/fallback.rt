@@ -1,4 +1,5 @@
-//! The fallback search: depth first, with counting and nothing else. It answers where what the search gave fails a test.
+//! The fallback search: depth first, with counting and nothing else. It answers where what the
+//! search gave fails a test.
 
 ghost use Rattle.std.specs.Prelude.{◌≡◌, ℕ, ◌+◌, ◌*◌, ◌^◌, ◌≤◌, ◌<◌, OnOk, IfOk};
 ghost use Rattle.bank_tables.specs.Tables.{size};
@@ -21,7 +22,8 @@ use series_check::{SeriesCut, Setting, below_form, is_whole, root_cut, standing_
 use series_tree::{Memory, SeriesNode, SeriesTree, has_open_leaf};
 use std::alloc::Global;
 
-/// What the search keeps: the best series known, the branches that the node budget leaves, and the nodes so far.
+/// What the search keeps: the best series known, the branches that the node budget leaves, and the
+/// nodes so far.
 #[derive(Drop)]
 struct SearchState {
     best: Option<Known>,
@@ -74,7 +76,8 @@ fn free_item(setting: &Setting, cut: &SeriesCut) -> FreeItem
     unreachable!()
 }
 
-/// Searches the subtree of a path. A branch is used up by each branch made; once none is left, what is not settled is left Open.
+/// Searches the subtree of a path. A branch is used up by each branch made; once none is left, what
+/// is not settled is left Open.
 fn search(setting: &Setting, cut: &SeriesCut, state: &mut SearchState) -> Result<(), Memory>
     requires problem { IsSeriesProblem (problem_of setting.now) }
     requires known { IsKnown (problem_of setting.now) state.old.best }
@@ -144,9 +147,9 @@ fn outcome_of(
     })
 }
 
-/// Searches depth first within a budget of nodes: at each node the Count leaf of the first impossible row, else a Whole leaf
-/// where no item is free, else a branch on the lowest free item of the first form that has one, or an Open leaf once the budget
-/// leaves no branch.
+/// Searches depth first within a budget of nodes: at each node the Count leaf of the first
+/// impossible row, else a Whole leaf where no item is free, else a branch on the lowest free item
+/// of the first form that has one, or an Open leaf once the budget leaves no branch.
 pub fn search_fallback(alloc: Global, setting: &Setting, budget: u16) -> Result<Series, Memory>
     requires problem { IsSeriesProblem (problem_of setting.now) }
     requires budget { IsBudget budget }

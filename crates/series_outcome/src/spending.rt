@@ -27,8 +27,8 @@ fn is_spent_node(setting: &Setting, cut: &SeriesCut, node: &SeriesNode) -> bool
     }
 }
 
-/// The number of the first node after the subtree at a node whose path is given; None if a row is impossible by counting at a
-/// branch or an Open leaf of the subtree, or a branch is not sound.
+/// The number of the first node after the subtree at a node whose path is given; None if a row is
+/// impossible by counting at a branch or an Open leaf of the subtree, or a branch is not sound.
 fn spent_to(setting: &Setting, tree: &SeriesTree, at: u16, cut: &SeriesCut) -> Option<u16>
     requires problem { IsSeriesProblem (problem_of setting.now) }
     requires tree { (wait : ℕ) × AreTrees (suc wait) (drop at tree.now.nodes) }
@@ -53,8 +53,8 @@ fn spent_to(setting: &Setting, tree: &SeriesTree, at: u16, cut: &SeriesCut) -> O
     }
 }
 
-/// Whether a tree spends its node budget: it has that many nodes, and its Open leaves are what a search depth first left.
-/// Where a branch is not sound, the answer is no. Takes no memory.
+/// Whether a tree spends its node budget: it has that many nodes, and its Open leaves are what a
+/// search depth first left. Where a branch is not sound, the answer is no. Takes no memory.
 pub fn is_spent(setting: &Setting, tree: &SeriesTree, budget: u16) -> bool
     requires { IsSeriesProblem (problem_of setting.now) }
     ensures { IsTrue result → IsSpent (problem_of setting.now) tree.now budget }

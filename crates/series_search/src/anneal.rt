@@ -1,4 +1,5 @@
-//! Simulated annealing (Kirkpatrick, Gelatt and Vecchi, Optimization by Simulated Annealing, 1983) of exchanges between groups.
+//! Simulated annealing (Kirkpatrick, Gelatt and Vecchi, Optimization by Simulated Annealing, 1983)
+//! of exchanges between groups.
 
 use crate::arrangement::Arrangement;
 use crate::draws::Draws;
@@ -236,7 +237,8 @@ pub fn anneal(
     Ok(())
 }
 
-/// Two parts of a pool that reach a goal of each form, the first of so many forms; None where none is found.
+/// Two parts of a pool that reach a goal of each form, the first of so many forms; None where none
+/// is found.
 fn halves(
     alloc: Global,
     table: &Table,

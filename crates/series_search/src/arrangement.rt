@@ -23,7 +23,8 @@ pub struct Arrangement {
     group_of: Vec<usize>,
     place_of: Vec<usize>,
     has: Vec<Vec<u16>>,
-    /// For each group its sums at the points, its sums on the rows, its items of each stimulus, and how many stimuli are chosen.
+    /// For each group its sums at the points, its sums on the rows, its items of each stimulus, and
+    /// how many stimuli are chosen.
     sums: Vec<i64>,
     rows: Vec<i64>,
     counts: Vec<i64>,
@@ -157,7 +158,8 @@ impl Arrangement {
         }
     }
 
-    /// Adds an item to the sums of a group on the rows, or takes it off them; how the energy changes.
+    /// Adds an item to the sums of a group on the rows, or takes it off them; how the energy
+    /// changes.
     fn count_rows(&mut self, table: &Table, group: usize, item: usize, sign: i64) -> i64 {
         let first = group.wrapping_mul(table.rows.len());
         let times = self.times_of(group);
@@ -192,7 +194,8 @@ impl Arrangement {
             .wrapping_add(self.choose(table, group, more))
     }
 
-    /// Adds so many stimuli to those that a group has chosen; how the energy of the rows on them changes.
+    /// Adds so many stimuli to those that a group has chosen; how the energy of the rows on them
+    /// changes.
     fn choose(&mut self, table: &Table, group: usize, more: i64) -> i64 {
         if more == 0 {
             return 0;
@@ -391,7 +394,8 @@ impl Arrangement {
         }
     }
 
-    /// Adds items of a group and of a stimulus, 0 for none, until there are so many, from a place that is drawn.
+    /// Adds items of a group and of a stimulus, 0 for none, until there are so many, from a place
+    /// that is drawn.
     fn add_some(
         &self,
         table: &Table,
@@ -441,7 +445,8 @@ impl Arrangement {
         }
     }
 
-    /// The items of a passage of a group, or some of no passage, and as many of another passage or of none that are left.
+    /// The items of a passage of a group, or some of no passage, and as many of another passage or
+    /// of none that are left.
     fn drawn_passages(
         &self,
         table: &Table,

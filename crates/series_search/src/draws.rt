@@ -27,8 +27,9 @@ impl Draws {
         usize::try_from(drawn).unwrap_or(0)
     }
 
-    /// What a rise may be that is accepted at a temperature (Metropolis and others, Equation of State Calculations by Fast Computing
-    /// Machines, 1953): the temperature times the negative logarithm to the base 2 of a number drawn between 0 and 1.
+    /// What a rise may be that is accepted at a temperature (Metropolis and others, Equation of
+    /// State Calculations by Fast Computing Machines, 1953): the temperature times the negative
+    /// logarithm to the base 2 of a number drawn between 0 and 1.
     #[inline]
     pub fn rise(&mut self, temperature: i64) -> i64 {
         let drawn = self.bits() | 1;

@@ -1,5 +1,5 @@
-//! How far a group of items is from its goals and bounds, as energies: squares of what is lacking, where the mean information of an
-//! item is 16,384.
+//! How far a group of items is from its goals and bounds, as energies: squares of what is lacking,
+//! where the mean information of an item is 16,384.
 
 use crate::numbers::at;
 use crate::table::{Limits, Table};

@@ -3,9 +3,11 @@
 /// The kinds of vectors and branches beside those of each form alone.
 #[derive(Clone, Copy, Debug, PartialEq, Eq)]
 pub struct Kinds {
-    /// Whether vectors are judged by the rule of the pool; else each form alone, with multipliers of common use.
+    /// Whether vectors are judged by the rule of the pool; else each form alone, with multipliers
+    /// of common use.
     pub pool: bool,
-    /// Whether a vector of the pool may have a threshold, so that the items of each stimulus are counted with it.
+    /// Whether a vector of the pool may have a threshold, so that the items of each stimulus are
+    /// counted with it.
     pub thresholds: bool,
     /// Whether a branch may be on the use of an item.
     pub uses: bool,

@@ -15,7 +15,8 @@ use std::alloc::Global;
 /// Exchanges at a path, at most.
 const MOST_EXCHANGES: u32 = 2_000;
 
-/// The lengths at which the direction of a ray is tried, each 16 times the one before, and the least of them.
+/// The lengths at which the direction of a ray is tried, each 16 times the one before, and the
+/// least of them.
 const RAY_LENGTHS: u32 = 6;
 
 const FIRST_LENGTH: i64 = 1_048_576;
@@ -69,7 +70,8 @@ impl Model {
         self.multipliers(alloc, table, prices.as_slice())
     }
 
-    /// The multipliers at a length from a vertex in the direction of a ray, or of that direction alone.
+    /// The multipliers at a length from a vertex in the direction of a ray, or of that direction
+    /// alone.
     fn multipliers_towards(
         &mut self,
         alloc: Global,
@@ -162,7 +164,8 @@ impl Model {
     }
 }
 
-/// The leaf at a path with too few items for all forms: a multiplier of 1 on the common use of each shows it.
+/// The leaf at a path with too few items for all forms: a multiplier of 1 on the common use of each
+/// shows it.
 pub fn shortage(
     alloc: Global,
     table: &Table,

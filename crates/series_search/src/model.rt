@@ -1,8 +1,9 @@
 //! The linear relaxations: of the pool, and of all forms one beside the other.
 //!
-//! The value of a series is `base + span * t` with a column t from 0 to 1. A line for each point has the weighted information less K
-//! times that value (of a form: less the value), divided by a power of two so that it is short. A stimulus has a column for the forms
-//! that choose it, and with several forms an item has one for its use.
+//! The value of a series is `base + span * t` with a column t from 0 to 1. A line for each point
+//! has the weighted information less K times that value (of a form: less the value), divided by a
+//! power of two so that it is short. A stimulus has a column for the forms that choose it, and with
+//! several forms an item has one for its use.
 
 use crate::multipliers::Multipliers;
 use crate::numbers::{add_at, at, short, signed};
@@ -21,7 +22,8 @@ const SHORT: i64 = 65_535;
 /// Amounts of lines have so many bits after the point; the mean amount of a line is about one.
 const FINE: u32 = 10;
 
-/// What one of a line of a point is worth, at most, and the most that the column of the value gains.
+/// What one of a line of a point is worth, at most, and the most that the column of the value
+/// gains.
 const PRICE: i64 = 4_194_304;
 
 const MOST_GAIN: i64 = 274_877_906_944;
@@ -132,7 +134,8 @@ impl Model {
         lanes.wrapping_mul(table.bounds.len()).wrapping_add(1)
     }
 
-    /// Whether there is a relaxation of all forms: there are several, and it has few enough columns.
+    /// Whether there is a relaxation of all forms: there are several, and it has few enough
+    /// columns.
     pub fn has_forms(table: &Table) -> bool {
         let items = table.items as usize;
         let groups = Model::stimulus_groups(table, table.forms).wrapping_add(items);
@@ -338,7 +341,8 @@ impl Model {
         Ok(())
     }
 
-    /// Adds the line of a bound of a stimulus in a lane: the lower one for the sign 1, the upper one for -1.
+    /// Adds the line of a bound of a stimulus in a lane: the lower one for the sign 1, the upper
+    /// one for -1.
     fn add_bound(
         &mut self,
         alloc: Global,
@@ -392,7 +396,8 @@ impl Model {
         self.add_line(alloc, cells.as_slice(), 0, Some(0), 1, meaning)
     }
 
-    /// The columns of the items of a stimulus in a lane, where they are linked and one form at most may choose it.
+    /// The columns of the items of a stimulus in a lane, where they are linked and one form at most
+    /// may choose it.
     fn linked(
         &self,
         alloc: Global,
@@ -460,8 +465,8 @@ impl Model {
         self.relaxation.end_given(alloc, links.as_slice())
     }
 
-    /// The relaxation of the pool or of the forms, for values from somewhat below the goal up to a number that none exceeds. A vector
-    /// shows what links do only if it may have a threshold.
+    /// The relaxation of the pool or of the forms, for values from somewhat below the goal up to a
+    /// number that none exceeds. A vector shows what links do only if it may have a threshold.
     pub fn of(
         alloc: Global,
         table: &Table,
@@ -674,8 +679,8 @@ impl Model {
         Ok(multipliers)
     }
 
-    /// Adds the multipliers of common use, which one form alone needs not: those of the lines of uses, or of a pool what its items
-    /// count above the last that it takes.
+    /// Adds the multipliers of common use, which one form alone needs not: those of the lines of
+    /// uses, or of a pool what its items count above the last that it takes.
     fn add_uses_of(
         &self,
         alloc: Global,
@@ -699,7 +704,8 @@ impl Model {
     }
 }
 
-/// Sets the multipliers of common use of a pool: what each item counts above the last of those that count most.
+/// Sets the multipliers of common use of a pool: what each item counts above the last of those that
+/// count most.
 fn set_pool_uses(
     alloc: Global,
     table: &Table,

@@ -18,14 +18,16 @@ const ROW_SIDES: usize = 768;
 
 const FORM_SIDES: usize = 384;
 
-/// The sides of the lengths begin here; after them come those of the threshold, and the mark of the pool.
+/// The sides of the lengths begin here; after them come those of the threshold, and the mark of the
+/// pool.
 const LENGTH_SIDES: usize = 2_304;
 
 const THRESHOLD_SIDES: usize = 2_312;
 
 const MARK: usize = 2_314;
 
-/// The multipliers of each form, of either sign: those of points are at least 0, and the others are above 0 for the low side.
+/// The multipliers of each form, of either sign: those of points are at least 0, and the others are
+/// above 0 for the low side.
 #[derive(Drop)]
 pub struct Multipliers {
     /// Of the points that have a weight, form by form.
@@ -36,7 +38,8 @@ pub struct Multipliers {
     pub bounds: Vec<i64>,
     /// Of the lengths.
     pub lengths: Vec<i64>,
-    /// Of the common use of each item, which are at least 0; they count only without the rule of the pool.
+    /// Of the common use of each item, which are at least 0; they count only without the rule of
+    /// the pool.
     pub uses: Vec<i64>,
     /// Whether the vector is judged by the rule of the pool; else each form alone.
     pub is_pool: bool,
@@ -185,7 +188,8 @@ impl Multipliers {
         Ok(())
     }
 
-    /// Adds the sides from those of the lengths on; at least one, so that the vector is one of the pool.
+    /// Adds the sides from those of the lengths on; at least one, so that the vector is one of the
+    /// pool.
     fn push_pool(&self, pairs: &mut Vec<(u16, u32)>, threshold: Option<i64>) -> Result<(), Memory> {
         let before = pairs.len();
         let mut side = LENGTH_SIDES;

@@ -94,7 +94,8 @@ impl Path {
         path
     }
 
-    /// The path where an item is out of a form and, where twins count as one, of each form of the same state.
+    /// The path where an item is out of a form and, where twins count as one, of each form of the
+    /// same state.
     fn without_in(&self, form: u8, item: u16, twins: bool) -> Path {
         let mut path = *self;
         let state = (self.taken_in(form as usize), self.free_in(form as usize));
@@ -127,7 +128,8 @@ impl Path {
         }
     }
 
-    /// The leaf of a row that is impossible by counting, if there is one; of used items if they fail so.
+    /// The leaf of a row that is impossible by counting, if there is one; of used items if they
+    /// fail so.
     pub fn counted(&self, table: &Table) -> Option<SeriesNode> {
         let placed = self.placed();
         let lost = self.used.minus(placed).minus(self.live());
@@ -214,7 +216,8 @@ impl Sums {
         self.stimuli.get(stimulus).copied().unwrap_or(0)
     }
 
-    /// The lowest row of the plan of which these sums are too great, or those of all that may come too small.
+    /// The lowest row of the plan of which these sums are too great, or those of all that may come
+    /// too small.
     fn impossible_in_plan(&self, table: &Table, all: &Sums) -> Option<u8> {
         let mut number = 0usize;
         for limits in table.rows.as_slice() {

@@ -1,5 +1,5 @@
-//! Vectors with the weights that they give: by the rule of the pool an item counts less the multiplier of its form's length, else less
-//! that of its common use.
+//! Vectors with the weights that they give: by the rule of the pool an item counts less the
+//! multiplier of its form's length, else less that of its common use.
 
 use crate::multipliers::Multipliers;
 use crate::numbers::{add_at, at};
@@ -188,7 +188,8 @@ impl Priced {
         goal
     }
 
-    /// The least number that no series exceeds by this vector, whose relaxed maximum is given; by halves.
+    /// The least number that no series exceeds by this vector, whose relaxed maximum is given; by
+    /// halves.
     pub fn least_value(&self, table: &Table, maximum: i64, top: i64) -> i64 {
         let mut low = -1i64;
         let mut high = top;

@@ -43,8 +43,8 @@ pub struct Bounded {
     pub tree: SeriesTree,
 }
 
-/// The result of a search, of which nothing is believed: forms, that with the lowest item first, if a series was met; a tree, if what
-/// was built is one; and a bound.
+/// The result of a search, of which nothing is believed: forms, that with the lowest item first, if
+/// a series was met; a tree, if what was built is one; and a bound.
 #[derive(Drop)]
 pub struct Searched {
     pub forms: Option<List<ItemSet>>,
@@ -157,8 +157,8 @@ fn sweeps(
     Ok(last)
 }
 
-/// Looks for a better series of one form with items linked to their stimuli. What such a relaxation shows no vector without a
-/// threshold can, so its tree is left.
+/// Looks for a better series of one form with items linked to their stimuli. What such a relaxation
+/// shows no vector without a threshold can, so its tree is left.
 fn scout_links(
     alloc: Global,
     table: &Table,
@@ -175,8 +175,8 @@ fn scout_links(
     sweep.grow(alloc, table, best, draws)
 }
 
-/// Looks for a better series with the relaxation of the forms. No vectors are kept, so it may close more paths than a tree has vectors
-/// for.
+/// Looks for a better series with the relaxation of the forms. No vectors are kept, so it may close
+/// more paths than a tree has vectors for.
 fn scout_forms(
     alloc: Global,
     table: &Table,
@@ -198,8 +198,8 @@ fn is_done(sweep: &Option<Sweep>) -> bool {
     }
 }
 
-/// The sweep of the kind that suits the bank; if it spends the budget, that of the other kind, if there is one, after a better series
-/// was looked for.
+/// The sweep of the kind that suits the bank; if it spends the budget, that of the other kind, if
+/// there is one, after a better series was looked for.
 fn best_sweep(
     alloc: Global,
     table: &Table,
@@ -273,10 +273,10 @@ fn gathered(
     })
 }
 
-/// Looks for a series of so many forms of a plan, 1 to 4, whose least weighted information is as great as can be, and for a tree
-/// within a budget of nodes, which is odd and at most 4,095, that shows it best, or that there is no series, or that spends the
-/// budget. `weights` has one number for each grid point, and trees have the given kinds alone. All is to
-/// be tested.
+/// Looks for a series of so many forms of a plan, 1 to 4, whose least weighted information is as
+/// great as can be, and for a tree within a budget of nodes, which is odd and at most 4,095, that
+/// shows it best, or that there is no series, or that spends the budget. `weights` has one number
+/// for each grid point, and trees have the given kinds alone. All is to be tested.
 pub fn search(
     alloc: Global,
     bank: &Bank,

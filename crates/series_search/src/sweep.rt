@@ -24,7 +24,8 @@ const GAINS: u32 = 8;
 /// So many pools of a sweep may stay in one piece; then none is parted any more.
 const UNSPLIT: u32 = 6;
 
-/// A path that waits for its subtree, with its vertex, which is of the relaxation of the pool or of that of the forms.
+/// A path that waits for its subtree, with its vertex, which is of the relaxation of the pool or of
+/// that of the forms.
 #[derive(Drop)]
 struct Waiting {
     path: Path,
@@ -84,18 +85,20 @@ pub struct Sweep {
     branches: u32,
     /// Pools that stayed in one piece.
     unsplit: u32,
-    /// Whether nothing more is expected of exchanges, since vectors have no room, or a pool without a relaxation of the forms stayed
-    /// in one piece. The budget is spent all the same, as a tree that is not a proof needs.
+    /// Whether nothing more is expected of exchanges, since vectors have no room, or a pool without
+    /// a relaxation of the forms stayed in one piece. The budget is spent all the same, as a tree
+    /// that is not a proof needs.
     is_hopeless: bool,
-    /// Whether the sweep only looks for better series: a path that exchanges close is left open, and so is one whose pool stayed in
-    /// one piece.
+    /// Whether the sweep only looks for better series: a path that exchanges close is left open,
+    /// and so is one whose pool stayed in one piece.
     is_scout: bool,
     /// Whether a leaf is Open.
     pub is_spent: bool,
 }
 
 impl Sweep {
-    /// A sweep that has only its root, which begins with the relaxation of the pool or of the forms.
+    /// A sweep that has only its root, which begins with the relaxation of the pool or of the
+    /// forms.
     pub fn new(
         alloc: Global,
         table: &Table,
@@ -212,7 +215,8 @@ impl Sweep {
         Ok(())
     }
 
-    /// A branch where nothing is taken in part: on the use of an item that the vertex takes, else on any item.
+    /// A branch where nothing is taken in part: on the use of an item that the vertex takes, else
+    /// on any item.
     fn any_branch(&mut self, table: &Table, at: &Waiting) -> Option<SeriesNode> {
         let path = &at.path;
         if table.kinds.uses && at.is_pool && table.forms > 1 {
@@ -263,7 +267,8 @@ impl Sweep {
         Ok(Err(None))
     }
 
-    /// The same; a path whose pool cannot be parted goes on with the relaxation of the forms, if there is one.
+    /// The same; a path whose pool cannot be parted goes on with the relaxation of the forms, if
+    /// there is one.
     fn leaf_or_forms(
         &mut self,
         alloc: Global,

@@ -43,7 +43,8 @@ pub struct Table {
     /// The mean of these numbers, at least 1, and the greatest of them.
     pub mean: i64,
     pub most: i64,
-    /// The stimulus of each item, the items of each stimulus (those of none at 0), and its bounds (those of stimulus `s` at `s - 1`).
+    /// The stimulus of each item, the items of each stimulus (those of none at 0), and its bounds
+    /// (those of stimulus `s` at `s - 1`).
     pub stimulus: Vec<usize>,
     pub members: Vec<ItemSet>,
     pub bounds: Vec<(i64, i64)>,

@@ -1,7 +1,7 @@
 -- A node that is read is the node that was written, and what was written is read again.
-use Rattle.std.proofs.Common.{◌≡◌, ℕ, ◌+◌, ◌^◌, ◌<◌, ◌≤◌, ◌⊎◌, inl, inr, Bool, true, false, cond, ltb, leb, eqb, ◌||◌, List, [], ◌∷◌, Ok, refl, ap, subst, arith}
+use Rattle.std.proofs.Common.{◌≡◌, ℕ, ◌+◌, ◌^◌, ◌<◌, ◌≤◌, ◌⊎◌, inl, inr, Bool, true, false, cond, ltb, leb, eqb, List, [], ◌∷◌, Ok, refl, ap, subst, arith}
 use Rattle.std.specs.Int.{w16, to_be_bytes}
-use Rattle.std.proofs.lemmas.Bool.{or_parts, or_from, ltb-false, leb-false, eqb-true, eqb-false, le-ltb, lt-leb, ne_eqb}
+use Rattle.std.proofs.lemmas.Bool.{ltb-false, leb-false, eqb-true, le-ltb, lt-leb}
 use Rattle.exam_text.specs.First.{◌>>=◌, unless, fault_where}
 use Rattle.exam_text.proofs.Firsts.{bind_ok, unless_ok, none_where, ok_is}
 use Rattle.series_model.specs.declared.node.SeriesNode.{SeriesNode}

@@ -1,4 +1,5 @@
--- A tree that is read is the tree that was written, and what was written is read again, whatever follows.
+-- A tree that is read is the tree that was written, and what was written is read again, whatever
+-- follows.
 use Rattle.std.proofs.Common.{◌≡◌, ℕ, zero, suc, ◌+◌, ◌*◌, ◌<◌, ◌≤◌, Bool, true, false, cond, ltb, List, [], ◌∷◌, ◌++◌, length, All, drop, Result, Ok, Err, refl, sym, ap, subst, arith, length-append, ◌∙◌}
 use Rattle.std.specs.Prelude.{IfOk}
 use Rattle.std.specs.List.{flat_map, AllByRecursion, sum_by}

@@ -1,4 +1,5 @@
--- Reading a series tree from left to right, up to the first fault, with the place where the faulty field or node begins.
+-- Reading a series tree from left to right, up to the first fault, with the place where the faulty
+-- field or node begins.
 use Rattle.std.specs.Prelude.{ℕ, zero, suc, ◌+◌, ◌-◌, not, ◌||◌, ◌==◌, nat_lt, nat_le, List, [], ◌∷◌, length, Result, Ok, Err, if◌then◌else◌}
 use Rattle.std.specs.Int.{w16, w32}
 use Rattle.exam_text.specs.First.{◌>>=◌, unless, fault_where}
@@ -34,8 +35,8 @@ abbrev pub first_large : Multipliers → ℕ → ℕ
 first_large [] at = at
 first_large (pair ∷ pairs) at = if nat_lt 16777216 pair.1 then at + 2 else first_large pairs (at + 6)
 
--- a vector of at most `room` pairs, and never more than 2,304, and the place after it; where it names no side of the pool, a
--- multiplier above 2 ^ 24 is a fault
+-- a vector of at most `room` pairs, and never more than 2,304, and the place after it; where it
+-- names no side of the pool, a multiplier above 2 ^ 24 is a fault
 unfoldable pub multipliers_at : ℕ → List ℕ → ℕ → Result (Multipliers × ℕ) TreeFault
 multipliers_at room bytes at = do
   count ← number_at w16 bytes at
@@ -129,7 +130,8 @@ nodes_at (suc room) (suc waiting) bytes at =
 
 -- ---- a tree
 
--- the tree at the front of the bytes, and the number of bytes that it takes; what follows isn't read
+-- the tree at the front of the bytes, and the number of bytes that it takes; what follows isn't
+-- read
 unfoldable pub read : List ℕ → Result (Certificate × ℕ) TreeFault
 read bytes = do
   count ← byte_at bytes 0

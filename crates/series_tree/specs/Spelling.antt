@@ -18,7 +18,8 @@ node_bytes Open = 6 ∷ []
 node_bytes (Use i) = 7 ∷ to_be_bytes w16 i
 node_bytes (Twin f i) = 8 ∷ f ∷ to_be_bytes w16 i
 
--- the number of vectors in one byte, the vectors as a proof tree has them, and the nodes in preorder
+-- the number of vectors in one byte, the vectors as a proof tree has them, and the nodes in
+-- preorder
 unfoldable pub bytes_of : Certificate → List ℕ
 bytes_of T = length T.vectors ∷ (flat_map vector_bytes T.vectors ++ flat_map node_bytes T.nodes)
 

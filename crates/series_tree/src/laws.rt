@@ -33,7 +33,8 @@ pub fn cut_off_is_told()
         → IsCutOff k (read (take k (bytes_of T))) }
 {}
 
-/// A tree's bytes in hexadecimal digits are read back as its bytes, so that a printed tree is one that can be read.
+/// A tree's bytes in hexadecimal digits are read back as its bytes, so that a printed tree is one
+/// that can be read.
 pub fn text_is_read()
     ensures { (T : Certificate) → IsTree T → decode_of (encode_lower (bytes_of T)) ≡ Ok (bytes_of T) }
 {}

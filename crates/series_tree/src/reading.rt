@@ -316,10 +316,12 @@ fn tree_of(alloc: Global, bytes: &[u8]) -> Result<(SeriesTree, usize), TreeFault
     Ok((SeriesTree::new(List::of(vectors), List::of(nodes)), next))
 }
 
-/// The series tree that the bytes begin with, and how many bytes it takes; what follows isn't looked at.
+/// The series tree that the bytes begin with, and how many bytes it takes; what follows isn't
+/// looked at.
 ///
-/// A fault has the place of the byte where the faulty field or node begins. A multiplier above 16,777,216 is a fault of a
-/// vector that names no side from 2,304 on, found after the vector's pairs.
+/// A fault has the place of the byte where the faulty field or node begins. A multiplier above
+/// 16,777,216 is a fault of a vector that names no side from 2,304 on, found after the vector's
+/// pairs.
 pub fn decode_series(alloc: Global, bytes: &[u8]) -> Result<(SeriesTree, usize), TreeFault>
     // What is read is the one spelling of the tree.
     ensures found { IfOk result (λ x. IsTree x.0 × BeginsWith bytes.now x.0

@@ -21,10 +21,11 @@ pub const POOL_SIDES: u16 = 2_304;
 /// The most pairs of one vector.
 pub const SERIES_VECTOR_PAIRS: u16 = 2_304;
 
-/// A series tree (branch and bound; Land and Doig, An Automatic Method of Solving Discrete Programming Problems, 1960): at
-/// most 255 vectors with sides below 2,315, of at most 2,304 pairs each and 12,288 in all, and at most 4,095 nodes, which are
-/// one binary tree in preorder. Only a vector that names a side from 2,304 on has a multiplier above 16,777,216. A node
-/// names a form below 4, an item below 512, or a row of at most 192.
+/// A series tree (branch and bound; Land and Doig, An Automatic Method of Solving Discrete
+/// Programming Problems, 1960): at most 255 vectors with sides below 2,315, of at most 2,304 pairs
+/// each and 12,288 in all, and at most 4,095 nodes, which are one binary tree in preorder. Only a
+/// vector that names a side from 2,304 on has a multiplier above 16,777,216. A node names a form
+/// below 4, an item below 512, or a row of at most 192.
 #[derive(Debug, Drop)]
 pub struct SeriesTree {
     vectors: List<SeriesVector>,

@@ -7,8 +7,8 @@ use bank_tables::List;
 use std::alloc::{AllocError, Global};
 use std::marker::Model;
 
-/// The multiplier of each side that it names: pairs of a side and a multiplier, sides strictly ascending, multipliers 1 to
-/// 4,294,967,295. A side that isn't named has the multiplier 0.
+/// The multiplier of each side that it names: pairs of a side and a multiplier, sides strictly
+/// ascending, multipliers 1 to 4,294,967,295. A side that isn't named has the multiplier 0.
 #[derive(Debug, Drop)]
 pub struct SeriesVector {
     pairs: List<(u16, u32)>,
@@ -47,7 +47,8 @@ impl SeriesVector {
         SeriesVector { pairs }
     }
 
-    /// The vector of these pairs; None exactly where the sides don't ascend strictly or a multiplier is 0.
+    /// The vector of these pairs; None exactly where the sides don't ascend strictly or a
+    /// multiplier is 0.
     pub fn of(pairs: List<(u16, u32)>) -> Option<SeriesVector>
         ensures some { IsSome result ↔ Ascends 0 pairs }
         ensures pairs { IfSome result (λ v. v ≡ pairs) }

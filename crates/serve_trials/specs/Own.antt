@@ -11,7 +11,8 @@ Appends n before after answer = MatchBool answer (after ≡ before ++ n ∷ []) 
 abbrev pub HasAt : ℕ → List ℕ → List ℕ → Type 0
 HasAt n items places = All (λ k. slice_get items k ≡ Some n) places
 
--- the passes 0 and 1 have so many places each, at which the list has their numbers, and no place in common
+-- the passes 0 and 1 have so many places each, at which the list has their numbers, and no place in
+-- common
 pub record HasBoth (count : ℕ) (items : List ℕ) : Type 0 where
   pub first : List ℕ
   pub second : List ℕ

@@ -81,8 +81,8 @@ pub(crate) const A_MESSAGE_OF_VERSION_1_0: Exchange = Exchange {
     ended: Ended::Done,
 };
 
-/// A session with a list, the ways to ask for it again, each refusal of a list but one, and bodies that
-/// have no list: of two members the last counts, and a misspelt one is ignored.
+/// A session with a list, the ways to ask for it again, each refusal of a list but one, and bodies
+/// that have no list: of two members the last counts, and a misspelt one is ignored.
 pub(crate) const LISTS: Exchange = Exchange {
     messages: &[
         (START, 0, CREATED),
@@ -146,9 +146,9 @@ pub(crate) const LISTS: Exchange = Exchange {
     ended: Ended::Done,
 };
 
-/// Answers and closings that name a booking. A faulty booking is refused, and so is another one, before the
-/// step and the response are looked at; neither does anything. The right one is as none. A body that is no
-/// JSON, or no object, closes without a booking.
+/// Answers and closings that name a booking. A faulty booking is refused, and so is another one,
+/// before the step and the response are looked at; neither does anything. The right one is as none.
+/// A body that is no JSON, or no object, closes without a booking.
 pub(crate) const BOOKINGS: Exchange = Exchange {
     messages: &[
         (START, 0, CREATED),

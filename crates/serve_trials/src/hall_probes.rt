@@ -29,9 +29,9 @@ struct Case {
     found: &'static [Found],
 }
 
-// Opening an empty journal is calls 0 to 5, and the two entries of the start are calls 6 to 9 and 10
-// to 13: write, sync, open the gate, sync. Where the second sync fails, the entry is on the disk,
-// and is kept; where the first fails, it is dropped.
+// Opening an empty journal is calls 0 to 5, and the two entries of the start are calls 6 to 9 and
+// 10 to 13: write, sync, open the gate, sync. Where the second sync fails, the entry is on the
+// disk, and is kept; where the first fails, it is dropped.
 const CASES: [Case; 5] = [
     Case {
         fails: &[],

@@ -174,7 +174,8 @@ fn replies_on_a<R: Threads + Wait + Sync>(
     }
 }
 
-// Session 0 is started first, and session 1 is served before it. No session has ended, so both have the same first item.
+// Session 0 is started first, and session 1 is served before it. No session has ended, so both have
+// the same first item.
 #[test]
 fn one_is_held_while_the_other_is_answered(rt: HostRuntime) -> Result<(), Fail> {
     let gate = Hold::new();

@@ -263,7 +263,8 @@ fn a_folder_is_no_file_to_read(rt: HostRuntime) -> Result<(), Fail> {
     expect_no_file(&rt, &rt, place.as_path().as_str())
 }
 
-// What a client is answered to "ping": so many bytes. No message of HTTP begins so, which is known at the end of the line.
+// What a client is answered to "ping": so many bytes. No message of HTTP begins so, which is known
+// at the end of the line.
 fn answer_at(rt: &HostRuntime, address: SocketAddr) -> (usize, [u8; 8]) {
     let mut got = [0u8; 8];
     let Ok(mut stream) = TcpStream::connect(rt, address) else {
@@ -313,7 +314,8 @@ fn a_door_gives_its_links(rt: HostRuntime) -> Result<(), Fail> {
     given
 }
 
-// A client that sends "ping", reads the answer, waits so many milliseconds, and sends "ping" again, in two parts.
+// A client that sends "ping", reads the answer, waits so many milliseconds, and sends "ping" again,
+// in two parts.
 fn ping_twice(rt: &HostRuntime, address: SocketAddr, pause: u64) -> (usize, [u8; 8]) {
     let mut got = [0u8; 8];
     let Ok(mut stream) = TcpStream::connect(rt, address) else {
@@ -328,7 +330,8 @@ fn ping_twice(rt: &HostRuntime, address: SocketAddr, pause: u64) -> (usize, [u8;
     (stream.read(&mut got).unwrap_or(0), got)
 }
 
-// A link whose bytes were used, and which waits too long for more, has ended: it gives none of the bytes that come then.
+// A link whose bytes were used, and which waits too long for more, has ended: it gives none of the
+// bytes that come then.
 fn expect_no_more<R: Abort>(rt: &R, host: HostRuntime, link: &mut HostLink) {
     let mut buffer = [0u8; 16];
     expect_exchange(rt, link);
@@ -364,7 +367,8 @@ fn a_silent_client_loses_its_connection(rt: HostRuntime) -> Result<(), Fail> {
     ended
 }
 
-// A link gives a message as a whole. When its bytes were used, the link has ended, so that its connection is kept.
+// A link gives a message as a whole. When its bytes were used, the link has ended, so that its
+// connection is kept.
 fn expect_exchange_and_rest<R: Abort>(rt: &R, door: &mut HostDoor) -> Result<(), Fail>
     requires { out_of door.old ≡ false }
     ensures { out_of door.new ≡ false }

@@ -1,9 +1,11 @@
-//! Tests on bank A above the office. Requests: on an office of one thread, on a hall with one caller, and on a hall with two
-//! callers at once, also with lists of items, and with forms that are ready before the answer. The work of a server: no doors, two
-//! doors in memory with one connection each, also behind a gate that both connections must reach, one door with and without
-//! prepared forms, and a door of the host with one client. The workers on two doors in memory. The objects of `host_edge` on files
-//! of a temporary folder and on a socket. HTTP over one connection: an office of one thread, over an empty disk in memory, serves
-//! the bank. The lock under threads: many passes append their numbers to one list, in turns, and the tests run two threads, and
+//! Tests on bank A above the office. Requests: on an office of one thread, on a hall with one
+//! caller, and on a hall with two callers at once, also with lists of items, and with forms that
+//! are ready before the answer. The work of a server: no doors, two doors in memory with one
+//! connection each, also behind a gate that both connections must reach, one door with and without
+//! prepared forms, and a door of the host with one client. The workers on two doors in memory. The
+//! objects of `host_edge` on files of a temporary folder and on a socket. HTTP over one connection:
+//! an office of one thread, over an empty disk in memory, serves the bank. The lock under threads:
+//! many passes append their numbers to one list, in turns, and the tests run two threads, and
 //! sixteen, and count. It promises nothing upward and holds no code of the product.
 #![tactic(auto)]
 

@@ -1,5 +1,6 @@
-//! Requests with lists of items on bank A, through a hall. The replies were worked out by hand: the form without item 2 is of
-//! items 1, 3 and 5, and no form is without items 0 and 1, or without items 3 to 5.
+//! Requests with lists of items on bank A, through a hall. The replies were worked out by hand: the
+//! form without item 2 is of items 1, 3 and 5, and no form is without items 0 and 1, or without
+//! items 3 to 5.
 
 ghost use Rattle.std.specs.Prelude.{◌≡◌};
 ghost use Rattle.form_model.specs.Validity.{IsPlanFor};
@@ -284,8 +285,8 @@ fn expect_begun_once<R: Abort>(rt: &R, (first, second): (Told, Told)) {
     }
 }
 
-// Callers that sought their forms one after another would give up at the gate. The form without item
-// 2 has no item 4.
+// Callers that sought their forms one after another would give up at the gate. The form without
+// item 2 has no item 4.
 #[test]
 fn one_booking_has_one_list(rt: HostRuntime) -> Result<(), Fail> {
     let gate = Meeting::new();

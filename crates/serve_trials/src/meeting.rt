@@ -8,7 +8,8 @@ use std::thread;
 // How many turns a caller waits for the other, before it gives up.
 const TURNS: u32 = 2_000_000;
 
-/// It holds each caller before its assembly until two callers have reached it, for at most so many turns.
+/// It holds each caller before its assembly until two callers have reached it, for at most so many
+/// turns.
 #[derive(Drop)]
 pub(crate) struct Meeting {
     arrived: AtomicU32,

@@ -1,7 +1,5 @@
 //! A list of numbers under the lock.
 
-ghost use Rattle.std.specs.Prelude.{◌≡◌};
-
 use turn_lock::{Kept, Move as TurnMove};
 
 /// A list of numbers, which is its own history.

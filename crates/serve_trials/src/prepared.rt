@@ -1,9 +1,11 @@
 //! Forms that are ready before the answer comes, on bank A. All numbers are worked by hand.
 //!
-//! A session begins with the items 1, 2 and 3, of information 8, 9 and 6 at point 1, and gets item 2. With response 0 its estimate
-//! is point 1, its form is the same, and item 1 is next. With response 1 its estimate is point 2. Its form is then that of the items
-//! 1, 2 and 4, of information 2, 3 and 9, and item 4 is next. The two problems differ, so each needs an assembly of its own. After
-//! item 4 too: with response 0 the estimate is point 1, and with response 1 point 2.
+//! A session begins with the items 1, 2 and 3, of information 8, 9 and 6 at point 1, and gets item
+//! 2. With response 0 its estimate is point 1, its form is the same, and item 1 is next. With
+//!    response 1 its estimate is point 2. Its form is then that of the items 1, 2 and 4, of
+//!    information 2, 3 and 9, and item 4 is next. The two problems differ, so each needs an
+//!    assembly of its own. After item 4 too: with response 0 the estimate is point 1, and with
+//!    response 1 point 2.
 
 ghost use Rattle.std.specs.Prelude.{◌≡◌};
 ghost use Rattle.form_model.specs.Validity.{IsPlanFor};
@@ -60,8 +62,8 @@ struct Trial {
     left: &'static [Key],
 }
 
-// The form of response 1 is taken off the desk, so that the answer needs no assembly. That of response 0
-// stays there.
+// The form of response 1 is taken off the desk, so that the answer needs no assembly. That of
+// response 0 stays there.
 const A_FORM_IS_READY: Trial = Trial {
     room: 16,
     steps: [
@@ -83,8 +85,8 @@ const A_FORM_IS_READY: Trial = Trial {
     }],
 };
 
-// An answer that names another booking is refused. It takes the form of its response off the desk, so
-// the right answer needs an assembly, and gets the same item.
+// An answer that names another booking is refused. It takes the form of its response off the desk,
+// so the right answer needs an assembly, and gets the same item.
 const REFUSED_BEFORE: Trial = Trial {
     room: 16,
     steps: [
@@ -131,8 +133,8 @@ const AFTER_WRONG: Place = Place::Waiting {
     proved: true,
 };
 
-// With room for one result, that of response 1 displaces that of response 0, whose answer then needs an
-// assembly.
+// With room for one result, that of response 1 displaces that of response 0, whose answer then
+// needs an assembly.
 const ROOM_FOR_ONE: Trial = Trial {
     room: 1,
     steps: [
@@ -154,9 +156,10 @@ const ROOM_FOR_ONE: Trial = Trial {
     }],
 };
 
-// The items but 2 and 4 have the same log-likelihood at each point, so both responses to item 1 leave the
-// estimate at point 1, and lead to one problem. It is assembled once. The answer with response 1 takes
-// the result of response 0, and nothing is left. Item 3 is the free item of the form 1, 2, 3.
+// The items but 2 and 4 have the same log-likelihood at each point, so both responses to item 1
+// leave the estimate at point 1, and lead to one problem. It is assembled once. The answer with
+// response 1 takes the result of response 0, and nothing is left. Item 3 is the free item of the
+// form 1, 2, 3.
 const ONE_PROBLEM: Trial = Trial {
     room: 16,
     steps: [

@@ -4,8 +4,8 @@ use exam_edge::{Gate, Point};
 use exam_handler::{Health, Observer};
 use std::sync::atomic::{AtomicU32, Ordering};
 
-/// It counts how often it is told how the examination is, and how often that is of two open sessions
-/// with four entries. As a gate it holds nobody.
+/// It counts how often it is told how the examination is, and how often that is of two open
+/// sessions with four entries. As a gate it holds nobody.
 #[derive(Drop)]
 pub(crate) struct Tally {
     seen: AtomicU32,

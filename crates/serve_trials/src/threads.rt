@@ -1,6 +1,6 @@
 //! Passes of one lock in threads.
 
-ghost use Rattle.std.specs.Prelude.{◌≡◌, ◌+◌, ◌<◌, [], IsTrue, IfSome, All, length};
+ghost use Rattle.std.specs.Prelude.{◌≡◌, ◌+◌, ◌<◌, [], IfSome, All};
 ghost use Rattle.turn_lock.specs.Passes.{new_pass};
 ghost use Rattle.serve_trials.specs.Own.{AppendsOwn, HasBoth, HasRun, IsReady};
 
@@ -20,8 +20,8 @@ fn append_one<R: Wait>(rt: &R, turn: &Turn<Numbers>, pass: &mut Pass<Numbers>) -
     turn.turn(rt, pass, &mut Append { number })
 }
 
-/// Takes turns, and answers whether each of them appended the pass's number. At the places of its own entries the list
-/// then has that number.
+/// Takes turns, and answers whether each of them appended the pass's number. At the places of its
+/// own entries the list then has that number.
 pub fn append_all<R: Wait>(
     rt: &R,
     turn: &Turn<Numbers>,
@@ -146,7 +146,8 @@ fn run_all<R: Threads + Wait + Sync>(
     );
 }
 
-/// So many passes in as many threads, each with so many turns. Gives the list at the end; `None` out of memory.
+/// So many passes in as many threads, each with so many turns. Gives the list at the end; `None`
+/// out of memory.
 pub fn many_threads<R: Threads + Wait + Sync>(
     rt: &R,
     alloc: Global,

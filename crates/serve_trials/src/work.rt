@@ -152,7 +152,8 @@ fn serve_over<'a, L: Door + Send + Drop, G: Gate + Observer + Sync, R: Threads +
     }
 }
 
-/// What comes of the work on bank A with these doors, with room for so many prepared forms, or for none.
+/// What comes of the work on bank A with these doors, with room for so many prepared forms, or for
+/// none.
 pub(crate) fn serve_bank_a<
     L: Door + Send + Drop,
     G: Gate + Observer + Sync,

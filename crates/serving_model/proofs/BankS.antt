@@ -54,7 +54,8 @@ next_1 : IsNext problem_1 (these (0 ∷ 1 ∷ 3 ∷ 4 ∷ [])) 1
 unfolding problem_1 seat_s bank_s item_s
 next_1 = next_is problem_1 (these (0 ∷ 1 ∷ 3 ∷ 4 ∷ [])) 1 (these_below 5 (0 ∷ 1 ∷ 3 ∷ 4 ∷ []) refl) refl
 
--- ---- item 1 is answered: the form has no more items of stimulus 1, though the bank has, so item 3 is next
+-- ---- item 1 is answered: the form has no more items of stimulus 1, though the bank has, so item 3
+-- is next
 unfoldable pub problem_2 : Problem
 unfolding seat_s
 problem_2 = seat_problem bank_s plan_s 0 (seat_s (0 ∷ 1 ∷ []) (0 ∷ 0 ∷ [])) 0

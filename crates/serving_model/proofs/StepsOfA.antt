@@ -1,4 +1,5 @@
--- Bank A goes on: the estimate after each answer, the next problems of the seat, their forms and next items.
+-- Bank A goes on: the estimate after each answer, the next problems of the seat, their forms and
+-- next items.
 use Rattle.std.proofs.Common.{◌≡◌, ℕ, zero, suc, ◌<◌, inl, true, false, List, [], ◌∷◌, negsuc, None, Some, refl, sym, subst, arith}
 use Rattle.std.specs.Prelude.{slice_get}
 use Rattle.std.proofs.Math.Dec.{lit≤}

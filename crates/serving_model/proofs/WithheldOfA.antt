@@ -13,7 +13,8 @@ use Rattle.form_model.proofs.Computed.{these, these_below, one_word, form_is, is
 use Rattle.serving_model.proofs.Computed.{next_is}
 use Rattle.form_model.proofs.BankA.{item_a, bank_a, plan_of_rows, plan_a}
 
--- a new seat with a list, every item eligible in the one band, with the flags of eligibility set aside
+-- a new seat with a list, every item eligible in the one band, with the flags of eligibility set
+-- aside
 unfoldable pub seat_without_2 : List Bool → Seat
 seat_without_2 flags = record (new_seat (one_word 63 ∷ [])) { aside = flags; without = Some (one_word 4); form = Some (one_word 42) }
 
@@ -70,7 +71,8 @@ still_barred : ((problem_without_2 first_aside).aside ≡ true) × ((problem_asi
 unfolding problem_without_2 seat_without_2 bank_a item_a plan_of_rows plan_a has
 still_barred = (refl, refl, refl)
 
--- it is available as the others are, and withheld all the same; past the last band none is available
+-- it is available as the others are, and withheld all the same; past the last band none is
+-- available
 available_items :
     (is_available_in (seat_without_2 not_aside) 0 2 ≡ true)
     × (is_available_in (seat_without_2 first_aside) 0 2 ≡ true)
@@ -82,7 +84,8 @@ available_items :
 unfolding seat_without_2 has
 available_items = (refl, refl, refl, refl, refl, refl, refl)
 
--- the items 1, 3 and 5 are a form of 21, and item 1 is its first; the best form of all items, with item 2, is none
+-- the items 1, 3 and 5 are a form of 21, and item 1 is its first; the best form of all items, with
+-- item 2, is none
 form_135 : Form (problem_without_2 not_aside) (these (1 ∷ 3 ∷ 5 ∷ []))
 unfolding problem_without_2 seat_without_2 bank_a item_a plan_of_rows plan_a has
 form_135 = form_is (problem_without_2 not_aside) (these (1 ∷ 3 ∷ 5 ∷ [])) (these_below 6 (1 ∷ 3 ∷ 5 ∷ []) refl) (λ i e. absurd (cc)) refl

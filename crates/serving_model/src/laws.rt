@@ -17,7 +17,8 @@ pub fn form_stays()
     ensures { FormStays }
 {}
 
-/// The form last served from stays a form once eligibility is set aside: so a session that has begun never lacks one.
+/// The form last served from stays a form once eligibility is set aside: so a session that has
+/// begun never lacks one.
 pub fn form_stays_aside()
     ensures { FormStaysAside }
 {}

@@ -21,7 +21,8 @@ fn is_withheld(seat: &Seat, item: u16) -> bool
     }
 }
 
-/// Whether an item is unavailable in a band: it isn't eligible there, nor is eligibility set aside there.
+/// Whether an item is unavailable in a band: it isn't eligible there, nor is eligibility set aside
+/// there.
 fn is_unavailable(seat: &Seat, band: u8, item: u16) -> bool
     requires { band < 8 }
     ensures { result ≡ is_unavailable_in seat.now band item }
@@ -29,7 +30,8 @@ fn is_unavailable(seat: &Seat, band: u8, item: u16) -> bool
     !(seat.eligible[band as usize].has(item) || seat.aside[band as usize])
 }
 
-/// Whether an item is barred in a band, by the items shown, the stimuli entered and the stimulus of the item shown last.
+/// Whether an item is barred in a band, by the items shown, the stimuli entered and the stimulus of
+/// the item shown last.
 fn is_barred(
     bank: &Bank,
     seat: &Seat,
@@ -53,8 +55,8 @@ fn is_barred(
     !shown.has(item) && (left_behind || kept_out)
 }
 
-/// The items barred in a band: those not shown that are of a stimulus that was left, or withheld from the examinee, or not
-/// eligible in the band where eligibility isn't set aside there.
+/// The items barred in a band: those not shown that are of a stimulus that was left, or withheld
+/// from the examinee, or not eligible in the band where eligibility isn't set aside there.
 pub fn barred_items(bank: &Bank, seat: &Seat, band: u8, shown: &ItemSet) -> ItemSet
     requires band { band < 8 }
     requires items { (i : ℕ) → IsTrue (is_shown seat.now i) → i < size bank.now }

@@ -1,6 +1,7 @@
-//! What to serve next: the problem of an examinee's seat, the item served from a form of it, and the seat after each step
-//! (shadow-test approach; van der Linden, Linear Models for Optimal Test Design, 2005). Upward it promises that they are
-//! exactly as defined in form_model and serving_model; it assembles no form, keeps no state and takes no memory.
+//! What to serve next: the problem of an examinee's seat, the item served from a form of it, and
+//! the seat after each step (shadow-test approach; van der Linden, Linear Models for Optimal Test
+//! Design, 2005). Upward it promises that they are exactly as defined in form_model and
+//! serving_model; it assembles no form, keeps no state and takes no memory.
 #![tactic(auto)]
 
 mod bar;

@@ -22,8 +22,8 @@ fn is_pending(spec: &Spec, seat: &Seat) -> bool
     !seat.closed && answered < spec.length() as usize && seat.shown.len() == answered
 }
 
-/// The problem of a seat that waits for an item, with the posterior mode of its answers as estimate; none where it doesn't
-/// wait for one. The sums of the prior and its answers are given.
+/// The problem of a seat that waits for an item, with the posterior mode of its answers as
+/// estimate; none where it doesn't wait for one. The sums of the prior and its answers are given.
 pub fn next_problem_from<'a>(
     bank: &'a Bank,
     spec: &'a Spec,

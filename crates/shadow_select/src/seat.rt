@@ -7,7 +7,8 @@ ghost use Rattle.serving_model.specs.Seats.{new_seat, with_item, with_response};
 use bank_tables::{ItemSet, Short};
 use serving_model::Seat;
 
-/// The seat of a session that begins without a list, with the items that are eligible for it in each band.
+/// The seat of a session that begins without a list, with the items that are eligible for it in
+/// each band.
 pub fn new_seat(eligible: &[ItemSet; 8]) -> Seat
     ensures { result ≡ new_seat eligible.now }
 {
@@ -23,7 +24,8 @@ pub fn new_seat(eligible: &[ItemSet; 8]) -> Seat
     }
 }
 
-/// The seat after an item of a form was shown. It keeps the form with its mark, whether the form is proved best.
+/// The seat after an item of a form was shown. It keeps the form with its mark, whether the form is
+/// proved best.
 pub fn with_item(seat: &Seat, form: &ItemSet, proved: bool, item: u16) -> Seat
     requires { length seat.now.shown < 512 }
     ensures { result ≡ with_item seat.now form.now proved item }

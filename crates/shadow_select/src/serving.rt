@@ -1,6 +1,6 @@
 //! The item served from a form.
 
-ghost use Rattle.std.specs.Prelude.{◌≡◌, ◌<◌, IfSome};
+ghost use Rattle.std.specs.Prelude.{◌≡◌, ◌<◌};
 ghost use Rattle.bank_tables.specs.Items.{has};
 ghost use Rattle.bank_tables.specs.Tables.{size};
 ghost use Rattle.form_model.specs.Forms.{Form};
@@ -65,9 +65,9 @@ fn best_candidate(problem: &Problem, form: &ItemSet, goes_on: bool, last: u8) ->
     best
 }
 
-/// The item served from a form of the problem that has an item not yet given. Of its items not yet given it is one of the
-/// stimulus of the item given last, if there are such; of these one of the greatest information at the estimate; of these
-/// the lowest number.
+/// The item served from a form of the problem that has an item not yet given. Of its items not yet
+/// given it is one of the stimulus of the item given last, if there are such; of these one of the
+/// greatest information at the estimate; of these the lowest number.
 pub fn next_item(problem: &Problem, form: &ItemSet) -> u16
     requires well_made { IsWellMade (problem_of problem.now) }
     requires form { Form (problem_of problem.now) (has form.now) }

@@ -1,6 +1,6 @@
 //! The items that a seat was shown.
 
-ghost use Rattle.std.specs.Prelude.{◌≡◌, ℕ, ◌<◌, ◌≤◌, ◌==◌, length, nat_lt, slice_get, IsTrue, IfSome, Some};
+ghost use Rattle.std.specs.Prelude.{◌≡◌, ℕ, ◌<◌, ◌==◌, length, nat_lt, slice_get, IsTrue, IfSome, Some};
 ghost use Rattle.std.specs.List.{list_any};
 ghost use Rattle.bank_tables.specs.Items.{has};
 ghost use Rattle.bank_tables.specs.Tables.{size, stimulus};
@@ -45,7 +45,8 @@ pub fn shown_items(bank: &Bank, seat: &Seat) -> ItemSet
     items
 }
 
-/// The stimuli of the items shown, as a set of their numbers; 0, which is no stimulus, may be among them.
+/// The stimuli of the items shown, as a set of their numbers; 0, which is no stimulus, may be among
+/// them.
 pub fn entered_stimuli(bank: &Bank, seat: &Seat) -> ItemSet
     requires { (i : ℕ) → IsTrue (is_shown seat.now i) → i < size bank.now }
     ensures { (s : ℕ) → has result s

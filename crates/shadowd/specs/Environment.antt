@@ -55,8 +55,8 @@ abbrev pub begins_with : List ℕ → List (List ℕ) → Bool
 begins_with word [] = false
 begins_with word (first ∷ words) = bytes_eq first word
 
--- how the journal's file is opened for these words: an audit only reads it, and a move and a shipper make none; the others make one
--- where that is set
+-- how the journal's file is opened for these words: an audit only reads it, and a move and a
+-- shipper make none; the others make one where that is set
 abbrev pub access_for : List (List ℕ) → Bool → Access
 access_for words make =
     if begins_with (codes "audit") words then Read

@@ -26,8 +26,9 @@ pub enum Asked {
     Waits,
 }
 
-// Whether a process of this system has a socket at this path. A connection would be a request for its end. Without the
-// system's list nobody has it: a server that was killed has to be able to start again.
+// Whether a process of this system has a socket at this path. A connection would be a request for
+// its end. Without the system's list nobody has it: a server that was killed has to be able to
+// start again.
 fn is_in_use(rt: &HostRuntime, path: &str) -> Result<bool, AllocError> {
     let Ok(sockets) = fs::read(rt, SOCKETS) else {
         return Ok(false);
@@ -56,8 +57,8 @@ fn remove_old(rt: &HostRuntime, path: &str) -> io::Result<()> {
     fs::remove_file(rt, path)
 }
 
-/// A socket at this path, which is the owner's alone: a connection to it asks for the end. An error where it can't be had, or
-/// is another server's.
+/// A socket at this path, which is the owner's alone: a connection to it asks for the end. An error
+/// where it can't be had, or is another server's.
 pub fn socket_at(rt: &HostRuntime, path: &str) -> io::Result<UnixListener> {
     remove_old(rt, path)?;
     let socket = UnixListener::bind(rt, path)?;
@@ -66,7 +67,8 @@ pub fn socket_at(rt: &HostRuntime, path: &str) -> io::Result<UnixListener> {
     Ok(socket)
 }
 
-/// Asks the server of the socket at this path to end, and waits for that. An error where none listens there.
+/// Asks the server of the socket at this path to end, and waits for that. An error where none
+/// listens there.
 pub fn ask(rt: &HostRuntime, path: &str) -> io::Result<Asked> {
     let mut server = UnixStream::connect(rt, path)?;
     server.set_read_timeout(Some(Duration::from_secs(WAIT)))?;

@@ -1,9 +1,9 @@
 //! The program `shadowd`: it hands the host's files, standard output, the journal's file and, to
-//! serve or to follow, the doors of a listener, or, to ship, a door that connects once, to `run`, and
-//! ends with its status. Standard error has lines on the journal and the address before connections
-//! are served, lines on how far a server is, the count and the digest of the records before they are
-//! followed or shipped, a line on each object of the host of which a call failed, and why, and a line
-//! on why a journal is refused or which command explains that there is no form.
+//! serve or to follow, the doors of a listener, or, to ship, a door that connects once, to `run`,
+//! and ends with its status. Standard error has lines on the journal and the address before
+//! connections are served, lines on how far a server is, the count and the digest of the records
+//! before they are followed or shipped, a line on each object of the host of which a call failed,
+//! and why, and a line on why a journal is refused or which command explains that there is no form.
 #![tactic(auto)]
 
 ghost use Rattle.std.specs.Prelude.{◌≡◌, ◌≤◌, All, codes, true, false, map, string_bytes, vec_len, IfOk};
@@ -139,13 +139,15 @@ fn ask_for_end(words: &[String]) -> bool {
     words.len() == 1 && words[0].as_str() == "end"
 }
 
-/// Whether the words ask to stream the journal of a server: the names of a bank and a plan follow, which are not read.
+/// Whether the words ask to stream the journal of a server: the names of a bank and a plan follow,
+/// which are not read.
 fn ask_for_stream(words: &[String]) -> bool {
     words.len() == 3 && words[0].as_str() == "stream"
 }
 
-/// How many bytes the stack of a thread may have, if that is less than these words need. The system's limit is that of the
-/// main thread; each other thread has as much from the start of the process on.
+/// How many bytes the stack of a thread may have, if that is less than these words need. The
+/// system's limit is that of the main thread; each other thread has as much from the start of the
+/// process on.
 fn short_stack(words: &[String]) -> Option<u64> {
     let is_deep = DEEP.iter().any(|name| begin_with(words, *name));
     let mut limit = rlimit {
@@ -191,8 +193,8 @@ fn print_version(rt: &HostRuntime) -> ExitCode {
     }
 }
 
-/// How the journal's file is opened. An audit only reads it, a move and a shipper make none, and the
-/// other commands make one where that is set.
+/// How the journal's file is opened. An audit only reads it, a move and a shipper make none, and
+/// the other commands make one where that is set.
 fn access_of(words: &[String], make: bool) -> Access
     ensures { result ≡ access_for (map (λ w. string_bytes w) words.now) make }
 {
@@ -242,13 +244,14 @@ fn address_of(
     }
 }
 
-/// How many connections the system may keep for a listener until they are accepted. It keeps no more than its own
-/// limit, `net.core.somaxconn`.
+/// How many connections the system may keep for a listener until they are accepted. It keeps no
+/// more than its own limit, `net.core.somaxconn`.
 const QUEUE: i32 = 65_535;
 
-/// The listener, if the words ask for connections or to follow, and where it listens. Its queue is as long as the system
-/// allows: a burst of connections would otherwise wait a second for its second try. If the address can't be had, there is
-/// neither, and a line on standard error says why.
+/// The listener, if the words ask for connections or to follow, and where it listens. Its queue is
+/// as long as the system allows: a burst of connections would otherwise wait a second for its
+/// second try. If the address can't be had, there is neither, and a line on standard error says
+/// why.
 fn listener_of(
     rt: &HostRuntime,
     lines: &Lines,
@@ -272,7 +275,8 @@ fn listener_of(
     }
 }
 
-/// The socket at which an operator asks for the end, if the words ask for connections, any number of them, and a path is set.
+/// The socket at which an operator asks for the end, if the words ask for connections, any number
+/// of them, and a path is set.
 fn operator_of(
     rt: &HostRuntime,
     words: &[String],
@@ -292,8 +296,9 @@ struct Places {
     operator: Option<UnixListener>,
 }
 
-/// Where the words have the program reached. If the address or the socket can't be had, there is no listener, and a line on
-/// standard error says why. Without the address the socket is left alone: it may be that of the server which has the address.
+/// Where the words have the program reached. If the address or the socket can't be had, there is no
+/// listener, and a line on standard error says why. Without the address the socket is left alone:
+/// it may be that of the server which has the address.
 fn places_of(
     rt: &HostRuntime,
     lines: &Lines,
@@ -469,8 +474,9 @@ fn explain(lines: &Lines, words: &[String], settings: &Settings, finish: &HostFi
     }
 }
 
-/// Writes a line to standard error on why the run ended, if its halt has words. That of a journal that is refused names the file
-/// and, if one record is at fault, its number, from 0. The file is read once more for the number, and not changed.
+/// Writes a line to standard error on why the run ended, if its halt has words. That of a journal
+/// that is refused names the file and, if one record is at fault, its number, from 0. The file is
+/// read once more for the number, and not changed.
 fn explain_halt(rt: &HostRuntime, lines: &Lines, settings: &Settings, finish: &mut HostFinish) {
     let Some(halt) = finish.halt.take() else {
         return;
@@ -561,7 +567,8 @@ fn end_before(rt: &HostRuntime, lines: &Lines, fault: SettingsFault) -> ExitCode
     }
 }
 
-/// Writes a line to standard error on a stack that is too small, and gives the status to end with. Nothing was done.
+/// Writes a line to standard error on a stack that is too small, and gives the status to end with.
+/// Nothing was done.
 fn end_of_stack(rt: &HostRuntime, lines: &Lines, stack: u64) -> ExitCode {
     let (has, wants) = (stack / 1024, LEAST_STACK / 1024);
     lines.tell(format_args!(

@@ -17,8 +17,8 @@ const LONGEST: u64 = 536_870_912;
 /// After so many waits at one record the server was asked for its count.
 const WAITS: u32 = 10;
 
-/// The records of a journal: how many there are, and the SHA-256 of them, each as a file of the second version has it, with its
-/// open gate, its length and its payload.
+/// The records of a journal: how many there are, and the SHA-256 of them, each as a file of the
+/// second version has it, with its open gate, its length and its payload.
 #[derive(Drop)]
 struct Records {
     count: u64,
@@ -119,8 +119,8 @@ fn number_at(rt: &HostRuntime, walk: &mut Walk<&mut HostDisk>, place: u64) -> Op
     None
 }
 
-/// The number of the record whose gate is at a place of a journal's file, if there is a place, and a record at it. Records count
-/// from 0. The file is read, and not changed.
+/// The number of the record whose gate is at a place of a journal's file, if there is a place, and
+/// a record at it. Records count from 0. The file is read, and not changed.
 pub fn number_in(rt: &HostRuntime, disk: &mut HostDisk, place: Option<u64>) -> Option<u64> {
     let place = place?;
     match Journal::walk(disk, LONGEST) {
@@ -146,8 +146,8 @@ fn tell(rt: &HostRuntime, lines: &Lines, journal: &str, records: &Records) {
     }
 }
 
-/// Writes a line to standard error with the count and the digest of the records in the file of this path, if it is there. It is
-/// read, and not changed.
+/// Writes a line to standard error with the count and the digest of the records in the file of this
+/// path, if it is there. It is read, and not changed.
 pub fn tell_records(rt: &HostRuntime, lines: &Lines, journal: &str) {
     if fs::metadata(rt, journal).is_err() {
         return;
@@ -164,8 +164,9 @@ pub fn tell_records(rt: &HostRuntime, lines: &Lines, journal: &str) {
     }
 }
 
-/// Writes a line to standard error with the count and the digest of the records that the server at an address has settled in the
-/// file of this path, if there is one. The file is read, without a lock, and not changed.
+/// Writes a line to standard error with the count and the digest of the records that the server at
+/// an address has settled in the file of this path, if there is one. The file is read, without a
+/// lock, and not changed.
 pub fn tell_settled(rt: &HostRuntime, lines: &Lines, journal: &str, server: &str) {
     if fs::metadata(rt, journal).is_err() {
         return;

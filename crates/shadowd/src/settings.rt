@@ -1,8 +1,8 @@
 //! What the environment sets.
 
-ghost use Rattle.std.specs.Prelude.{◌≡◌, ◌≤◌, ◌⊎◌, ◌^◌, ◌-◌, ◌==◌, [], nat_le, ◌&&◌, IfOk, IsTrue, Some, None, codes, length, string_bytes, if◌then◌else◌};
+ghost use Rattle.std.specs.Prelude.{◌≡◌, ◌≤◌, ◌^◌, ◌-◌, ◌==◌, [], nat_le, ◌&&◌, IfOk, IsTrue, Some, None, codes, string_bytes, if◌then◌else◌};
 ghost use Rattle.std.specs.Option.{option_map};
-ghost use Rattle.shadowd.specs.Environment.{AreSettings, IsNumberIn, IsNumberOr, Writes, makes_by, token_of, value_or};
+ghost use Rattle.shadowd.specs.Environment.{AreSettings, IsNumberOr, Writes, makes_by, token_of, value_or};
 
 use crate::variables::{NoText, Variables};
 use host_edge::Lines;
@@ -29,7 +29,8 @@ pub struct Settings {
     pub reserve: u64,
     /// The path of the socket by which a server is asked to end, empty if there is none.
     pub end: String,
-    /// What each message to a server has to bear, if anything: 1 to 1,024 bytes, each from 33 to 126.
+    /// What each message to a server has to bear, if anything: 1 to 1,024 bytes, each from 33 to
+    /// 126.
     pub token: Option<Vec<u8>>,
 }
 
@@ -190,8 +191,9 @@ fn makes_by(text: &str) -> bool
     text.is_empty() || text == "yes"
 }
 
-// Whether a journal that is not there is made. A value that is neither yes nor no counts as no: an error of typing is not to do
-// what was to be forbidden. If `tells`, it has a line on standard error.
+// Whether a journal that is not there is made. A value that is neither yes nor no counts as no: an
+// error of typing is not to do what was to be forbidden. If `tells`, it has a line on standard
+// error.
 fn make_of<V: Variables>(lines: &Lines, variables: &V, tells: bool) -> Result<bool, AllocError>
     ensures { IsTrue (V.tells variables.now) → IfOk result (λ make. make
         ≡ makes_by (value_or (V.value variables.now (codes "SHADOWD_MAKE")) [])) }
@@ -236,10 +238,11 @@ fn token_of<V: Variables>(variables: &V) -> Result<Option<Vec<u8>>, SettingsFaul
 }
 
 impl Settings {
-    /// The values of SHADOWD_JOURNAL, SHADOWD_LISTEN, SHADOWD_FOLLOWER, SHADOWD_WORKERS, SHADOWD_IDLE,
-    /// SHADOWD_CONNECTIONS, SHADOWD_MAKE, SHADOWD_RESERVE and SHADOWD_END, or what stands for them. To serve, a number that counts as not
-    /// set has a line on standard error, and there is the token of SHADOWD_TOKEN. For a command that may
-    /// make a journal, a SHADOWD_MAKE that is neither yes nor no has its line.
+    /// The values of SHADOWD_JOURNAL, SHADOWD_LISTEN, SHADOWD_FOLLOWER, SHADOWD_WORKERS,
+    /// SHADOWD_IDLE, SHADOWD_CONNECTIONS, SHADOWD_MAKE, SHADOWD_RESERVE and SHADOWD_END, or what
+    /// stands for them. To serve, a number that counts as not set has a line on standard error, and
+    /// there is the token of SHADOWD_TOKEN. For a command that may make a journal, a SHADOWD_MAKE
+    /// that is neither yes nor no has its line.
     pub fn of<V: Variables>(
         rt: &HostRuntime,
         lines: &Lines,

@@ -64,8 +64,8 @@ fn explain_peer(lines: &Lines, end: DoorEnd) {
     }
 }
 
-/// Writes a line with the count and the digest of the records so far, and then streams the journal of the server at an address
-/// to a follower at another, until it fails.
+/// Writes a line with the count and the digest of the records so far, and then streams the journal
+/// of the server at an address to a follower at another, until it fails.
 pub fn stream_journal<R: Wait>(
     waiting: &R,
     rt: &HostRuntime,

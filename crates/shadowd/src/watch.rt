@@ -66,8 +66,8 @@ fn level_of(part: u64, rest: u64) -> u64 {
 }
 
 impl Watch {
-    /// A watch over the server of this journal's file, which listens at this address, if it could be
-    /// had. It measures from now on.
+    /// A watch over the server of this journal's file, which listens at this address, if it could
+    /// be had. It measures from now on.
     pub fn new(
         rt: &HostRuntime,
         lines: Lines,

@@ -1,6 +1,6 @@
 //! The draft that the lines of a plan fill, line by line.
 
-ghost use Rattle.std.specs.Prelude.{◌≡◌, ℕ, OnOk, IfOk, map};
+ghost use Rattle.std.specs.Prelude.{◌≡◌, OnOk, IfOk, map};
 ghost use Rattle.spec_reader.specs.Rules.{said};
 ghost use Rattle.spec_reader.specs.Plans.{plan_said, blank, with_rule, drafted};
 

@@ -8,7 +8,7 @@ ghost use Rattle.spec_reader.specs.Sets.{runs_of};
 ghost use Rattle.spec_reader.specs.Rules.{Said, line_of};
 ghost use Rattle.spec_reader.specs.Lines.{rules_of};
 ghost use Rattle.spec_reader.specs.Grammar.{Says, SayBehind, AreRuns, IsSet, in_runs, ArePrinted, AreFresh};
-ghost use Rattle.spec_reader.specs.Canonical.{words_text, line_text, canonical_rules, canonical};
+ghost use Rattle.spec_reader.specs.Canonical.{line_text, canonical_rules, canonical};
 ghost use Rattle.spec_reader.specs.Reading.{IsPlanText, IsPlanFault, IsReadFault, IsOfText, most_bytes};
 ghost use Rattle.spec_reader.specs.declared.plan_fault.PlanFault.{PlanFault};
 ghost use Rattle.spec_reader.specs.declared.plan_fault.PlanFault.TheVariants as outside;
@@ -97,7 +97,8 @@ pub fn a_text_has_a_key()
     ensures { (b : Tables) (text : List ℕ) (plan : Plan) → IsPlanText b text plan → IsKey plan.key }
 {}
 
-/// A plan that was read from a text is printed as a text of the same plan: the premise on the key is met by reading.
+/// A plan that was read from a text is printed as a text of the same plan: the premise on the key
+/// is met by reading.
 pub fn a_read_plan_prints_a_text_of_it()
     ensures { (b : Tables) (text : List ℕ) (plan : Plan) → IsBank b → IsPlanFor b plan
         → IsPlanText b text plan → IsPlanText b (canonical plan) plan }

@@ -1,4 +1,5 @@
-//! The plan text both ways: a test blueprint, rule by rule, as the plan of an item bank, and a plan as its canonical text.
+//! The plan text both ways: a test blueprint, rule by rule, as the plan of an item bank, and a plan
+//! as its canonical text.
 //!
 //! Upward it promises that a text is read as the plan that it means, valid for the bank, or refused
 //! for its first fault, with its line and kind; that what is printed is the canonical text of the

@@ -4,14 +4,13 @@ ghost use Rattle.std.specs.Prelude.{◌≡◌, ◌++◌, ◌∷◌, [], OnOk, If
 ghost use Rattle.std.specs.Fmt.{decimal, signed_decimal};
 ghost use Rattle.std.specs.List.{flat_map};
 ghost use Rattle.std.specs.Option.{option_map};
-ghost use Rattle.hex.specs.Hex.{encode_lower};
 ghost use Rattle.bank_tables.specs.Items.{has};
 ghost use Rattle.exam_text.specs.Keys.{IsKey};
 ghost use Rattle.exam_text.specs.Runs.{run_word};
 ghost use Rattle.spec_reader.specs.Sets.{runs_of};
-ghost use Rattle.spec_reader.specs.Rules.{said, Prior, Key, Bands, Stimulus, Base, Rate as RateLine};
+ghost use Rattle.spec_reader.specs.Rules.{Prior, Key, Stimulus, Rate as RateLine};
 ghost use Rattle.spec_reader.specs.Plans.{row_said, plan_said};
-ghost use Rattle.spec_reader.specs.Canonical.{words_text, line_text, bounds_below, band_rules, base_rules, limit_rules, setting_rules, canonical_rules, canonical, set_words};
+ghost use Rattle.spec_reader.specs.Canonical.{words_text, line_text, bounds_below, band_rules, base_rules, limit_rules, setting_rules, canonical, set_words};
 
 use crate::runs::runs_of;
 use bank_tables::ItemSet;

@@ -1,16 +1,13 @@
 //! The plan of a text.
 
 ghost use Rattle.std.specs.Prelude.{◌≡◌, ℕ, ◌⊎◌, ◌<◌, ◌≤◌, List, [], length, map, Some, None, IsTrue, IfOk, IfErr};
-ghost use Rattle.bank_tables.specs.Tables.{Tables};
 ghost use Rattle.exam_edge.specs.Faults.{Rose};
 ghost use Rattle.exam_edge.specs.Lent.{IsLent};
 ghost use Rattle.form_model.specs.Plan.{Plan};
 ghost use Rattle.form_model.specs.Forms.{stimuli_of};
 ghost use Rattle.form_model.specs.Validity.{IsPlanFor};
-ghost use Rattle.constraint_model.specs.Faults.{IsSpecFault};
 ghost use Rattle.spec_reader.specs.Rules.{said};
-ghost use Rattle.spec_reader.specs.Plans.{plan_said, drafted};
-ghost use Rattle.spec_reader.specs.Reading.{rule_at, number_fault, numbers_fault, IsDraft, IsPlanText, early_fault, IsFirstFault, IsPlanFault, IsOfText, most_bytes, IsReadFault};
+ghost use Rattle.spec_reader.specs.Reading.{rule_at, number_fault, numbers_fault, IsPlanText, early_fault, IsFirstFault, IsPlanFault, IsOfText, most_bytes, IsReadFault};
 ghost use Rattle.spec_reader.specs.declared.plan_fault.PlanFault.TheVariants as fault;
 
 use crate::drafting::draft_of;

@@ -1,9 +1,8 @@
 //! What a line of a plan means.
 
-ghost use Rattle.std.specs.Prelude.{◌≡◌, ℕ, ◌<◌, ◌≤◌, ◌&&◌, true, length, map, Some, None, IfSome, IfOk, is_some};
+ghost use Rattle.std.specs.Prelude.{◌≡◌, ◌<◌, ◌≤◌, ◌&&◌, true, length, map, Some, None, IfOk};
 ghost use Rattle.bank_tables.specs.Items.{has};
 ghost use Rattle.exam_text.specs.First.{Gives};
-ghost use Rattle.exam_text.specs.Numbers.{number_of};
 ghost use Rattle.hex.specs.Hex.{encode_lower};
 ghost use Rattle.exam_text.specs.Words.{word, none_empty};
 ghost use Rattle.spec_reader.specs.Keywords.{fits_setting, fits_constraint, fits_count};

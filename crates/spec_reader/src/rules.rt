@@ -1,6 +1,6 @@
 //! The rules of a plan, line by line.
 
-ghost use Rattle.std.specs.Prelude.{◌≡◌, ℕ, ◌<◌, ◌+◌, length, map, Some, None, get_or, []};
+ghost use Rattle.std.specs.Prelude.{◌≡◌, ◌<◌, ◌+◌, map, Some, None};
 ghost use Rattle.std.specs.List.{list_any};
 ghost use Rattle.exam_text.specs.First.{Gives};
 ghost use Rattle.exam_text.specs.Words.{lines_of};

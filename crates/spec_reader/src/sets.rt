@@ -1,6 +1,6 @@
 //! A set of items in words.
 
-ghost use Rattle.std.specs.Prelude.{◌≡◌, ℕ, ◌<◌, ◌≤◌, ◌&&◌, ◌||◌, length, map, IfSome, is_some, nat_le};
+ghost use Rattle.std.specs.Prelude.{◌≡◌, ℕ, ◌<◌, ◌≤◌, ◌&&◌, ◌||◌, map, IfSome, is_some, nat_le};
 ghost use Rattle.bank_tables.specs.Items.{has};
 ghost use Rattle.exam_text.specs.Runs.{is_set};
 ghost use Rattle.spec_reader.specs.Sets.{in_set};

@@ -7,8 +7,8 @@ ghost use Rattle.stream_trials.specs.Whole.{whole_is_served};
 use exam_edge::Failed;
 use journal_stream::{GrowingFile, Waited};
 
-/// The file of a journal in memory, with the payloads of its records, all of which its server has settled. It reports its file if
-/// the bytes are those of the records, and any bytes may be given.
+/// The file of a journal in memory, with the payloads of its records, all of which its server has
+/// settled. It reports its file if the bytes are those of the records, and any bytes may be given.
 #[derive(Drop)]
 pub struct MemoryJournal {
     records: Vec<Vec<u8>>,

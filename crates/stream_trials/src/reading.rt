@@ -7,7 +7,6 @@ use crate::MemoryJournal;
 use journal_stream::JournalTail;
 use record_links::{Asked, GrowingLog};
 use std::alloc::{AllocError, Global};
-use std::process::Abort;
 
 /// A journal of two records, of the payloads `3 4` and `5`.
 const TWO: [u8; 22] = [

@@ -3,8 +3,8 @@
 use bank_tables::ItemSet;
 use proof_tree::Vector;
 
-/// What subgradient steps aim at: a bound of at most `target`, or as low as they come where there is none, of the objective or
-/// of a ray, within so many steps.
+/// What subgradient steps aim at: a bound of at most `target`, or as low as they come where there
+/// is none, of the objective or of a ray, within so many steps.
 #[derive(Clone, Copy, Debug, PartialEq, Eq)]
 pub struct Aim {
     pub ray: bool,
@@ -19,7 +19,8 @@ pub struct Ascent {
     pub vector: Vector,
     /// Its bound, as the steps computed it.
     pub bound: i64,
-    /// For each item of the bank the smoothed share of steps in which the relaxed maximum had it, from 0 to 4,096.
+    /// For each item of the bank the smoothed share of steps in which the relaxed maximum had it,
+    /// from 0 to 4,096.
     pub shares: Vec<u16>,
     /// The same of each stimulus, that of stimulus `s` at `s - 1`.
     pub stimulus_shares: Vec<u16>,

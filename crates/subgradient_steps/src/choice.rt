@@ -5,7 +5,8 @@ use crate::selection::WHOLE;
 use crate::stimuli::Stimulus;
 use bank_tables::ItemSet;
 
-/// What is chosen at two neighbouring thresholds, mixed so that it has as many items as a form needs.
+/// What is chosen at two neighbouring thresholds, mixed so that it has as many items as a form
+/// needs.
 #[derive(Clone, Copy)]
 pub(crate) struct Choice {
     /// The value at the better one.

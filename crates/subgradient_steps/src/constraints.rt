@@ -13,8 +13,8 @@ pub(crate) struct Multiplier {
     pub best: i64,
 }
 
-/// A row on items, or on the number of stimuli. Its multiplier is that of the low side where positive, and of the high side
-/// where negative.
+/// A row on items, or on the number of stimuli. Its multiplier is that of the low side where
+/// positive, and of the high side where negative.
 #[derive(Clone, Copy)]
 pub(crate) struct Line {
     /// Whether it counts stimuli.
@@ -69,7 +69,8 @@ impl Multiplier {
 }
 
 impl Line {
-    /// Moves the multiplier by a step of a length; it stops at 0 on its way from one side to the other, unless these are one.
+    /// Moves the multiplier by a step of a length; it stops at 0 on its way from one side to the
+    /// other, unless these are one.
     #[inline]
     pub(crate) fn step(&mut self, length: i64) {
         let old = self.multiplier.scaled;

@@ -408,7 +408,8 @@ impl Flat {
         }
     }
 
-    /// How many items of no stimulus may be chosen: as many as a form needs, and one more where it may have stimuli.
+    /// How many items of no stimulus may be chosen: as many as a form needs, and one more where it
+    /// may have stimuli.
     fn most_alone(&self) -> usize {
         let wanted = usize::try_from(self.wanted).unwrap_or(0);
         if self.stimuli.is_empty() {
@@ -473,7 +474,8 @@ impl Flat {
         }
     }
 
-    /// Brings the heaviest items of no stimulus in order by their weights, and puts in those that became heavier.
+    /// Brings the heaviest items of no stimulus in order by their weights, and puts in those that
+    /// became heavier.
     pub(crate) fn rank_top(&mut self) {
         let count = self.top.len();
         reorder(&mut self.top, 0, count, &self.weights);

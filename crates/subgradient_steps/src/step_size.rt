@@ -21,7 +21,8 @@ pub(crate) struct Level {
 const PATIENCE: u32 = 4;
 
 impl Level {
-    /// The level after the first bound: the greater the part of the gap, the nearer, and at most so far below the target.
+    /// The level after the first bound: the greater the part of the gap, the nearer, and at most so
+    /// far below the target.
     pub(crate) fn of(target: i64, first: i64, part: i64, reach: i64) -> Level {
         let gap = first.wrapping_sub(target);
         Level {
@@ -81,7 +82,8 @@ impl Level {
         self.delta < least
     }
 
-    /// How long a step is from a bound, against a direction of this sum of squares, times 2 to the 32nd.
+    /// How long a step is from a bound, against a direction of this sum of squares, times 2 to the
+    /// 32nd.
     pub(crate) fn length(&self, bound: i64, squares: i64) -> i64 {
         let aimed = self
             .best

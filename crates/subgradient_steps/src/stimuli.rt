@@ -1,4 +1,5 @@
-//! The stimuli of a problem, each with its free items by their reduced weights: what the best of them weigh above a threshold.
+//! The stimuli of a problem, each with its free items by their reduced weights: what the best of
+//! them weigh above a threshold.
 
 use crate::ranking::Weighed;
 
@@ -32,7 +33,8 @@ pub(crate) struct Pick {
     /// Whether the stimulus is chosen.
     pub is_chosen: bool,
     pub count: i64,
-    /// What they weigh above the threshold, and what the stimulus adds for the rows that count stimuli.
+    /// What they weigh above the threshold, and what the stimulus adds for the rows that count
+    /// stimuli.
     pub sum: i64,
 }
 
@@ -119,7 +121,8 @@ impl Stimulus {
         }
     }
 
-    /// The multiplier of its low side where it has fewer free items than it needs: with that it gains nothing.
+    /// The multiplier of its low side where it has fewer free items than it needs: with that it
+    /// gains nothing.
     fn excluding(&self, members: &[Weighed], price: i64, threshold: i64) -> i64 {
         let Some(last) = members.last() else {
             return 0;
@@ -131,7 +134,8 @@ impl Stimulus {
         quotient.wrapping_add(1).max(least).max(0)
     }
 
-    /// The multipliers of its low side and of its high side with which it gains what its best items do at the threshold.
+    /// The multipliers of its low side and of its high side with which it gains what its best items
+    /// do at the threshold.
     pub(crate) fn multipliers(&self, ranked: &[Weighed], price: i64, threshold: i64) -> (i64, i64) {
         let members = self.members(ranked);
         let most = price.wrapping_add(sum_above(members, threshold));

@@ -217,7 +217,8 @@ impl Search {
         }
     }
 
-    /// Goes back to the multipliers of the best bound, where those of stimuli are to be worked out at them.
+    /// Goes back to the multipliers of the best bound, where those of stimuli are to be worked out
+    /// at them.
     fn return_to_best(&mut self) {
         if self.flat.stimuli.is_empty() {
             return;
@@ -255,7 +256,8 @@ fn part_of(steps: u32) -> i64 {
     if steps > 40 { 8 } else { 4 }
 }
 
-/// How far below the target the steps aim at most; a ray is as good at any scale, and at a larger one suffers less by rounding.
+/// How far below the target the steps aim at most; a ray is as good at any scale, and at a larger
+/// one suffers less by rounding.
 fn reach_of(ray: bool) -> i64 {
     if ray { 1024 } else { 64 }
 }

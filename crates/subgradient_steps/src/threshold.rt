@@ -1,11 +1,13 @@
-//! The threshold above which free items are chosen, so that in the relaxed maximum with the links of items to their stimuli
-//! as many are as a form needs: the least value of a convex function of one number.
+//! The threshold above which free items are chosen, so that in the relaxed maximum with the links
+//! of items to their stimuli as many are as a form needs: the least value of a convex function of
+//! one number.
 
 use crate::constraints::MOST;
 use crate::problem::Flat;
 use crate::ranking::Weighed;
 
-/// The value of the relaxed maximum's free items and stimuli at a threshold, and how many items are chosen there.
+/// The value of the relaxed maximum's free items and stimuli at a threshold, and how many items are
+/// chosen there.
 #[derive(Clone, Copy)]
 pub(crate) struct Point {
     pub threshold: i64,
@@ -13,7 +15,8 @@ pub(crate) struct Point {
     count: i64,
 }
 
-/// Two neighbouring thresholds: at the lower one too many items are chosen, at the other one no more than a form needs.
+/// Two neighbouring thresholds: at the lower one too many items are chosen, at the other one no
+/// more than a form needs.
 #[derive(Clone, Copy)]
 pub(crate) struct Bracket {
     pub below: Point,
@@ -35,7 +38,8 @@ impl Bracket {
         }
     }
 
-    /// The part of the lower one's choice, at most 256, with which the other one's makes a whole form.
+    /// The part of the lower one's choice, at most 256, with which the other one's makes a whole
+    /// form.
     pub(crate) fn part(&self) -> u16 {
         let lacking = self.wanted.wrapping_sub(self.above.count);
         let range = self.below.count.wrapping_sub(self.above.count);
@@ -100,7 +104,8 @@ fn above(ranked: &[Weighed], threshold: i64) -> (i64, i64) {
 }
 
 impl Flat {
-    /// The value of the free items and stimuli at a threshold, where the rows on stimuli have a price.
+    /// The value of the free items and stimuli at a threshold, where the rows on stimuli have a
+    /// price.
     fn point_at(&self, price: i64, threshold: i64) -> Point {
         let (mut value, mut count) = above(&self.top, threshold);
         for stimulus in &self.stimuli {
@@ -115,7 +120,8 @@ impl Flat {
         }
     }
 
-    /// Two thresholds, with too many items at the lower one and no more than a form needs at the other.
+    /// Two thresholds, with too many items at the lower one and no more than a form needs at the
+    /// other.
     fn wide_bracket(&self, price: i64) -> Bracket {
         let begun = self.point_at(price, self.threshold);
         let is_below = begun.count > self.wanted;

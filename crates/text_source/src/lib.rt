@@ -1,7 +1,8 @@
-//! A whole text from a source, with a limit of its length: what the readers of bank, plan and script texts begin with.
+//! A whole text from a source, with a limit of its length: what the readers of bank, plan and
+//! script texts begin with.
 //!
-//! Upward it promises the bytes of the source to its end, `TooLong` exactly by their number, and `Source` only where the
-//! source counted a fault. It gives the bytes no meaning.
+//! Upward it promises the bytes of the source to its end, `TooLong` exactly by their number, and
+//! `Source` only where the source counted a fault. It gives the bytes no meaning.
 #![tactic(auto)]
 
 ghost use Rattle.std.specs.Prelude.{◌≡◌, ℕ, ◌≤◌, ◌<◌, ◌^◌, List, [], IsTrue, IfOk, IfErr, length};
@@ -22,7 +23,8 @@ pub enum TextFault {
     Memory,
 }
 
-/// The whole text of a source, where it has at most `limit` bytes. After a fault the source may have lost bytes at its front.
+/// The whole text of a source, where it has at most `limit` bytes. After a fault the source may
+/// have lost bytes at its front.
 pub fn text_of<S: Source>(alloc: Global, source: &mut S, limit: usize) -> Result<Vec<u8>, TextFault>
     requires { limit < 2 ^ 32 }
     ensures text { IfOk result (λ text. IsTrue (S.tells source.old)

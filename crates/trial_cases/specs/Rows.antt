@@ -7,8 +7,8 @@ use Rattle.bank_tables.specs.Tables.{Tables, Item}
 abbrev pub two_categories : ℕ → List ℕ → List ℕ → List ℤ → Item
 two_categories stimulus quantities info loglik = record { stimulus = stimulus; categories = 2; quantities = quantities; info = info; loglik = loglik }
 
--- ---- bank L: twelve tens of items on seven points; the items before another of its ten have more information, and so
--- have the tens before its ten
+-- ---- bank L: twelve tens of items on seven points; the items before another of its ten have more
+-- information, and so have the tens before its ten
 abbrev pub points_l : List ℕ
 points_l = 0 ∷ 1 ∷ 2 ∷ 3 ∷ 4 ∷ 5 ∷ 6 ∷ []
 

@@ -1,4 +1,5 @@
-//! The worked banks and plans that the trials share: banks A, S, E, Q and L as rows and as text, and their plans.
+//! The worked banks and plans that the trials share: banks A, S, E, Q and L as rows and as text,
+//! and their plans.
 //!
 //! It holds data for tests alone, which no crate of the product uses, and promises nothing upward.
 #![tactic(auto)]

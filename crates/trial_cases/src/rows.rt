@@ -1,6 +1,6 @@
 //! The rows of the worked banks. Each item has two response categories.
 
-ghost use Rattle.std.specs.Prelude.{◌≡◌, ◌<◌, ◌++◌, [], ◌∷◌, IfOk, OnOk, map};
+ghost use Rattle.std.specs.Prelude.{◌≡◌, ◌<◌, [], IfOk, map};
 ghost use Rattle.form_model.proofs.BankA.{bank_a};
 ghost use Rattle.form_model.proofs.BankS.{bank_s};
 ghost use Rattle.form_model.proofs.BankE.{bank_e};
@@ -29,7 +29,8 @@ pub fn item(
     })
 }
 
-/// What is written down of an item of two response categories: its stimulus, quantities, information and log-likelihoods.
+/// What is written down of an item of two response categories: its stimulus, quantities,
+/// information and log-likelihoods.
 type Line<'a> = (u32, &'a [u32], &'a [u32], &'a [i32]);
 
 /// The items that these lines describe.

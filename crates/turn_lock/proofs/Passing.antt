@@ -1,5 +1,5 @@
 -- No pass and no entry is lost: each step keeps that, and the first pass knows all at the end.
-use Rattle.std.proofs.Common.{◌≡◌, ◌≢◌, ◌⊎◌, ℕ, zero, suc, ◌+◌, ◌-◌, ◌<◌, ◌≤◌, Bool, true, false, if◌then◌else◌, List, [], ◌∷◌, ◌++◌, length, set, refl, sym, ap, ◌∙◌, subst, inl, inr, ⊎_elim, arith, Option, Some, None, sum_by, Contains, length-append}
+use Rattle.std.proofs.Common.{◌≡◌, ◌≢◌, ◌⊎◌, ℕ, zero, suc, ◌+◌, ◌-◌, ◌<◌, ◌≤◌, Bool, true, false, if◌then◌else◌, List, [], ◌∷◌, ◌++◌, length, set, refl, sym, ap, ◌∙◌, subst, ⊎_elim, arith, Some, None, sum_by, Contains, length-append}
 use Rattle.std.proofs.lemmas.Bool.{true≢false, cases_lt, cases_eq}
 use Rattle.std.proofs.lemmas.List.Elements.{Contains-append_left, Contains-append_right, All-contains}
 use Rattle.std.proofs.lemmas.List.{append-nil}
@@ -9,7 +9,7 @@ use lib.ListN.{get_elem?}
 use mathlib.Core.Option.{some, some-injective, some-ne-none}
 use Rattle.atomic_table.proofs.Lists.{set_else, at_longer}
 use Rattle.turn_lock.specs.declared.view.View.{View}
-use Rattle.turn_lock.specs.Histories.{StartsWith, AreComparable, ArePlacesIn, longer_of, places}
+use Rattle.turn_lock.specs.Histories.{StartsWith, AreComparable, ArePlacesIn, places}
 use Rattle.turn_lock.specs.Rule.{Each, IsSince, IsOwned, AreAllThere, passes_in}
 use Rattle.turn_lock.specs.Seats.{first_view, split_view, new_view, joined_view, spent_view}
 use Rattle.turn_lock.proofs.Lists.{longer_length, at_end, nothing_more}
@@ -52,7 +52,8 @@ module _ {E : Type 0} where
       (λ other. (o.0, o.1, set_else views id o.0 w other ∙ o.2, o.3, o.4))
       (cases_eq o.0 id)
 
-  -- one view is set, whose places become no fewer, and which has for its own what is new in the history
+  -- one view is set, whose places become no fewer, and which has for its own what is new in the
+  -- history
   pub passes_set : (log after : List E) (views : List (View E)) → AreAllThere log views → (id : ℕ) (v w : View E)
       → get_elem? views id ≡ some v → w.live ≡ v.live → w.joined ≡ v.joined → w.start ≡ v.start → length v.seen ≤ length w.seen
       → ((t : ℕ) → w.ticket ≡ Some t → w.live ≡ true)

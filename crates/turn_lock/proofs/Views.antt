@@ -9,7 +9,7 @@ use Rattle.atomic_table.proofs.Lists.{at_set, set_else, at_longer}
 use Rattle.std.proofs.lemmas.Bool.{true≢false}
 use Rattle.turn_lock.specs.declared.view.View.{View}
 use Rattle.turn_lock.proofs.Lists.{at_end}
-use Rattle.turn_lock.specs.Rule.{Each, Pairs, Fits, AreApart, IsPlaced, AreInTurn, AreAllThere, IsSince, IsOwned, passes_in, tickets_of, one_ticket}
+use Rattle.turn_lock.specs.Rule.{Each, Pairs, Fits, AreApart, IsPlaced, AreInTurn, tickets_of, one_ticket}
 
 module _ {A : Type 0} where
   pub at_again : (l : List A) (i : ℕ) (a b : A) → get_elem? l i ≡ some a → get_elem? (set l i b) i ≡ some b

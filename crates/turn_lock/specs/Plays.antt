@@ -38,7 +38,8 @@ module _ {V E : Type 0} (history : V → List E) where
   IsTaken me x after =
       StartsWith (history x) me.0.seen × (after ≡ (record me.0 { seen = history x; served = true; out = true }, (0, Some x) ∷ me.1))
 
-  -- a look that takes the value: the ticket is served, and the value is out with the pass, or nothing changed
+  -- a look that takes the value: the ticket is served, and the value is out with the pass, or
+  -- nothing changed
   abbrev pub Looks : Me (Option V) (View E) → Bool → Me (Option V) (View E) → Type 0
   Looks me served after = MatchBool served ((x : V) × IsTaken me x after) (after ≡ me)
 
@@ -46,7 +47,8 @@ module _ {V E : Type 0} (history : V → List E) where
   abbrev pub Serves : ℕ → Me (Option V) (View E) → ℕ → Me (Option V) (View E) → Type 0
   Serves t me found after = Looks me (found == t % 2 ^ 64) after
 
-  -- the pass has seen the history of the value that it has in its slot, and what is new in it is its own
+  -- the pass has seen the history of the value that it has in its slot, and what is new in it is
+  -- its own
   abbrev pub Raises : Me (Option V) (View E) → Me (Option V) (View E) → Type 0
   Raises me after =
       (x : V) → Carries me x → (after ≡ (raised_view me.0 (history x), me.1)) × ArePlacesIn after.0.mine after.0.seen

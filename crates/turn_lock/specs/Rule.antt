@@ -23,9 +23,9 @@ Each {A} P views = (id : ℕ) (v : A) → get_elem? views id ≡ some v → P id
 abbrev pub Pairs : {A : Type 0} → (A → A → Type 0) → List A → Type 0
 Pairs {A} P views = (i j : ℕ) (v w : A) → i ≢ j → get_elem? views i ≡ some v → get_elem? views j ≡ some w → P v w
 
--- one view beside the history, the ticket `from` that is served and the next ticket `to`: it has seen a beginning, in which its own
--- places are; its ticket is one of those between; the value is out with it only while its ticket is served, and it has then
--- seen the whole history
+-- one view beside the history, the ticket `from` that is served and the next ticket `to`: it has
+-- seen a beginning, in which its own places are; its ticket is one of those between; the value is
+-- out with it only while its ticket is served, and it has then seen the whole history
 pub record Fits {E : Type 0} (log : List E) (from to id : ℕ) (v : View E) : Type 0 where
   pub seen : StartsWith log v.seen
   pub mine : ArePlacesIn v.mine v.seen
@@ -44,7 +44,8 @@ pub record AreApart {E : Type 0} (v w : View E) : Type 0 where
 abbrev pub passes_in : {E : Type 0} → View E → ℕ
 passes_in v = if v.live then 1 + v.joined else 0
 
--- one view of a lock that was made at a history of `start` entries: it has seen these, and has a ticket only while it is live
+-- one view of a lock that was made at a history of `start` entries: it has seen these, and has a
+-- ticket only while it is live
 pub record IsSince {E : Type 0} (start id : ℕ) (v : View E) : Type 0 where
   pub began : v.live ≡ true → (v.start ≡ start) × (start ≤ length v.seen)
   pub alive : (t : ℕ) → v.ticket ≡ Some t → v.live ≡ true
@@ -53,7 +54,8 @@ pub record IsSince {E : Type 0} (start id : ℕ) (v : View E) : Type 0 where
 abbrev pub IsOwned : {E : Type 0} → List (View E) → ℕ → Type 0
 IsOwned {E} views place = (id : ℕ) × (v : View E) × (get_elem? views id ≡ some v) × (v.live ≡ true) × Contains v.mine place
 
--- no pass and no entry is lost: each view was joined into a live one, or is live, and each entry after the start is the own of one
+-- no pass and no entry is lost: each view was joined into a live one, or is live, and each entry
+-- after the start is the own of one
 pub record AreAllThere {E : Type 0} (log : List E) (views : List (View E)) : Type 0 where
   pub start : ℕ
   pub each : Each (IsSince start) views
@@ -67,9 +69,10 @@ module _ {V E : Type 0} (history : V → List E) where
       ((x : V) × (s.homes ≡ some (Some x) ∷ []) × (history x ≡ log) × Each (λ _ v. v.out ≡ false) s.views)
       ⊎ ((id : ℕ) × (v : View E) × (get_elem? s.views id ≡ some v) × (v.out ≡ true) × (s.homes ≡ none ∷ []))
 
-  -- `log` is the history, `from` the ticket that is served, `to` the next ticket: both unbounded, the words have their rests
-  -- modulo 2^64. Each ticket from the one on and before the other is in one view (`busy` counts them, `each` and `pairs` keep
-  -- them in range and apart). While the first pass is live, there is one view more than it was split (`first`)
+  -- `log` is the history, `from` the ticket that is served, `to` the next ticket: both unbounded,
+  -- the words have their rests modulo 2^64. Each ticket from the one on and before the other is in
+  -- one view (`busy` counts them, `each` and `pairs` keep them in range and apart). While the first
+  -- pass is live, there is one view more than it was split (`first`)
   pub record AreInTurn (s : State (Option V) (View E)) : Type 0 where
     pub log : List E
     pub from : ℕ

@@ -1,6 +1,6 @@
 //! What is under the lock, and what is done to it in one turn.
 
-ghost use Rattle.std.specs.Prelude.{◌≡◌, ℕ, List, length, ◌++◌};
+ghost use Rattle.std.specs.Prelude.{◌≡◌, List, length, ◌++◌};
 ghost use Rattle.turn_lock.specs.Histories.{Grows};
 
 /// A value with a history.
@@ -24,7 +24,8 @@ pub trait Move<V: Kept> {
     /// What the move needs of a history.
     ghost needs: { Self → List V.Entry → Type 0 };
 
-    /// What it does: of the move before, the history before and after, the move after, and the answer.
+    /// What it does: of the move before, the history before and after, the move after, and the
+    /// answer.
     ghost makes: { Self → List V.Entry → List V.Entry → Self → Self.Answer → Type 0 };
 
     /// Adds at most two entries to the value's history.

@@ -1,5 +1,5 @@
-//! The table of the lock, its rule, and the kinds of step. Word 0 is the next ticket, word 1 the ticket that is served,
-//! word 2 the length of the history; slot 0 has the value.
+//! The table of the lock, its rule, and the kinds of step. Word 0 is the next ticket, word 1 the
+//! ticket that is served, word 2 the length of the history; slot 0 has the value.
 
 ghost use Rattle.std.specs.Prelude.{◌≡◌, ℕ, Some};
 ghost use Rattle.turn_lock.specs.Rule.{Holds};
@@ -27,7 +27,8 @@ impl<V: Kept> Play<Option<V>, View<V::Entry>> for Draw {
     ghost then = { λ _ me found after. Draws me found after };
 }
 
-/// Loads the ticket that is served. If it is the seat's own, the value is out with the seat from here on.
+/// Loads the ticket that is served. If it is the seat's own, the value is out with the seat from
+/// here on.
 pub struct Serve;
 
 impl<V: Kept> Play<Option<V>, View<V::Entry>> for Serve {

@@ -1,6 +1,6 @@
 //! The parts of a turn, each a function over the lock's table and one seat.
 
-ghost use Rattle.std.specs.Prelude.{◌≡◌, ◌<◌, ℕ, ◌+◌, ◌%◌, ◌^◌, List, [], ◌∷◌, ◌++◌, length, Some, None, true, false, MatchBool};
+ghost use Rattle.std.specs.Prelude.{◌≡◌, ◌<◌, ℕ, ◌%◌, [], ◌∷◌, Some, None, true, false};
 ghost use Rattle.turn_lock.specs.Histories.{ArePlacesIn, StartsWith};
 ghost use Rattle.turn_lock.specs.Passes.{KnowsAll};
 ghost use Rattle.turn_lock.specs.Seats.{known_of, IsSeatOf, IsLockTable, IsIdle, Waits, Carries, raised_view, ended_view};
@@ -92,8 +92,8 @@ pub(crate) fn await_last<V: Kept, R: Wait>(
     unreachable!()
 }
 
-// Sleeps until a turn ends, unless the ticket is served already. It may return at any time: this saves processor time,
-// and no clause rests on it.
+// Sleeps until a turn ends, unless the ticket is served already. It may return at any time: this
+// saves processor time, and no clause rests on it.
 fn rest<V: Kept, R: Wait>(table: &LockTable<V>, rt: &R, ticket: u64)
     requires { IsLockTable table.now.table_id }
 {
@@ -114,7 +114,8 @@ pub(crate) fn take<V: Kept>(table: &LockTable<V>, seat: &mut LockSeat<V>) -> V
     table.exchange(seat, 0, None).unwrap()
 }
 
-// Puts the value back into the slot, which is still out with the seat, and stores the length of its history.
+// Puts the value back into the slot, which is still out with the seat, and stores the length of its
+// history.
 pub(crate) fn give_back<V: Kept>(table: &LockTable<V>, seat: &mut LockSeat<V>, value: V)
     requires of { IsSeatOf seat.old.table_id table.now.table_id }
     requires empty { (seat.old.me.1 ≡ (0, None) ∷ []) × (seat.old.me.0.out ≡ true) }
@@ -155,8 +156,8 @@ pub(crate) fn leave<V: Kept>(table: &LockTable<V>, seat: &mut LockSeat<V>)
     wake(table, served.wrapping_add(1));
 }
 
-// Wakes those that wait, unless the ticket that is now served is not drawn yet: nobody waits then, and whoever draws it
-// finds it served. This saves a call of the system, and no clause rests on it.
+// Wakes those that wait, unless the ticket that is now served is not drawn yet: nobody waits then,
+// and whoever draws it finds it served. This saves a call of the system, and no clause rests on it.
 fn wake<V: Kept>(table: &LockTable<V>, serving: u64)
     requires { IsLockTable table.now.table_id }
 {

@@ -16,8 +16,9 @@ use std::marker::Model;
 use std::snapshot::Snapshot;
 use std::sync::Wait;
 
-/// A value that callers use in turns, each with a pass of this lock. Contracts see which lock it is. Threads may share
-/// it if the value may go from one to another. It can't be dropped: `close` ends it, and gives the value back.
+/// A value that callers use in turns, each with a pass of this lock. Contracts see which lock it
+/// is. Threads may share it if the value may go from one to another. It can't be dropped: `close`
+/// ends it, and gives the value back.
 pub struct Turn<V: Kept> {
     table: Table<Option<V>, View<V::Entry>, Snapshot<V>, LockRule, Global>,
 }
@@ -31,8 +32,8 @@ impl<V: Kept> Model for Turn<V> {
 }
 
 impl<V: Kept> Turn<V> {
-    /// A lock with the value in it, and its first pass, which has seen the whole history. Out of memory, the value is
-    /// given back as it was.
+    /// A lock with the value in it, and its first pass, which has seen the whole history. Out of
+    /// memory, the value is given back as it was.
     pub fn new(alloc: Global, value: V) -> Result<(Turn<V>, Pass<V>), V>
         ensures made { IfOk result (λ r. r.1 ≡ new_pass r.0 0 (length (V.history value)) (V.history value)) }
         ensures same { IfErr result (λ v. v ≡ value) }
@@ -61,8 +62,9 @@ impl<V: Kept> Turn<V> {
         }
     }
 
-    /// Waits for the pass's turn, and makes the move on the value, once. The history that the move finds begins with
-    /// all that the pass has seen. Afterwards the pass has seen the whole history, and what the move added is its own.
+    /// Waits for the pass's turn, and makes the move on the value, once. The history that the move
+    /// finds begins with all that the pass has seen. Afterwards the pass has seen the whole
+    /// history, and what the move added is its own.
     pub fn turn<M: Move<V>, R: Wait>(&self, rt: &R, pass: &mut Pass<V>, step: &mut M) -> M::Answer
         requires of { pass.old.turn ≡ self.now }
         requires needs { M.needs step.old pass.old.seen }
@@ -79,8 +81,8 @@ impl<V: Kept> Turn<V> {
         answer
     }
 
-    /// A new pass, which has seen as much as the first one. It takes no memory. Only the first pass is split, at most
-    /// 65,535 times, so that no more passes than that and one wait at once.
+    /// A new pass, which has seen as much as the first one. It takes no memory. Only the first pass
+    /// is split, at most 65,535 times, so that no more passes than that and one wait at once.
     pub fn split(&self, pass: &mut Pass<V>) -> Pass<V>
         requires of { pass.old.turn ≡ self.now }
         requires first { (pass.old.number ≡ 0) × (pass.old.splits < 65535) }
@@ -97,8 +99,8 @@ impl<V: Kept> Turn<V> {
         }
     }
 
-    /// Joins another pass into this one, which has then seen the longer of what the two have seen, and has both their
-    /// places for its own. It keeps its number and its fronts.
+    /// Joins another pass into this one, which has then seen the longer of what the two have seen,
+    /// and has both their places for its own. It keeps its number and its fronts.
     pub fn join(&self, pass: &mut Pass<V>, other: Pass<V>)
         requires of { (pass.old.turn ≡ self.now) × (other.turn ≡ self.now) }
         ensures joined { TakesIn pass.old other pass.new }
@@ -112,10 +114,11 @@ impl<V: Kept> Turn<V> {
         self.table.shared.load::<Learn>(&mut pass.seat, 0);
     }
 
-    /// Waits for a last turn, ends the lock, and gives the value that is found then. Its history begins with all that
-    /// the pass has seen. If the pass is the first one, and each pass that was split from it was joined into it, it has
-    /// seen the whole history, and each entry since the lock was made is its own. Else nothing is promised of entries
-    /// that only other passes have seen.
+    /// Waits for a last turn, ends the lock, and gives the value that is found then. Its history
+    /// begins with all that the pass has seen. If the pass is the first one, and each pass that was
+    /// split from it was joined into it, it has seen the whole history, and each entry since the
+    /// lock was made is its own. Else nothing is promised of entries that only other passes have
+    /// seen.
     pub fn close<R: Wait>(self, rt: &R, pass: Pass<V>) -> V
         requires of { pass.turn ≡ self }
         ensures begins { StartsWith (V.history result) pass.seen }

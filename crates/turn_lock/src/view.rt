@@ -1,4 +1,5 @@
-//! What a pass knows, as plain data. No value of these types is ever made: they are the views of a table's seats.
+//! What a pass knows, as plain data. No value of these types is ever made: they are the views of a
+//! table's seats.
 
 use std::collections::LinkedList;
 

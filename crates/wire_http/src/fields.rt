@@ -1,5 +1,6 @@
-//! What the fields of a head mean: the length of its body, and whether the connection is to be closed.
-ghost use Rattle.std.specs.Prelude.{◌≡◌, ◌⊎◌, true, [], All, map, length, slice_get, unwrap_or};
+//! What the fields of a head mean: the length of its body, and whether the connection is to be
+//! closed.
+ghost use Rattle.std.specs.Prelude.{◌≡◌, ◌⊎◌, true, [], All, map, length};
 ghost use Rattle.std.specs.List.{list_any, list_all};
 ghost use Rattle.std.specs.Char.{is_ascii_digit};
 ghost use Rattle.std.specs.Str.{str_eq_ignore_ascii_case};
@@ -17,7 +18,8 @@ fn is_same_word(text: &[u8], word: &[u8]) -> bool
     text.eq_ignore_ascii_case(word)
 }
 
-// How many fields have this name, and the value of the first of them, which is empty if there is none.
+// How many fields have this name, and the value of the first of them, which is empty if there is
+// none.
 fn count_and_first<'b>(bytes: &'b [u8], fields: &[HeaderSpan], name: &[u8]) -> (usize, &'b [u8])
     requires { All (IsHeaderWithin (length bytes.now)) fields.now }
     ensures count { result.0
@@ -94,8 +96,8 @@ fn size_of(text: &[u8]) -> Result<usize, WireFault>
     }
 }
 
-/// The length in bytes of the body after a head of this method and these fields, or the first fault of the fields. The
-/// fields are places in the bytes.
+/// The length in bytes of the body after a head of this method and these fields, or the first fault
+/// of the fields. The fields are places in the bytes.
 #[tactic(auto, unfolding(crate::specs::Fields::body_length))]
 pub(crate) fn body_length(
     bytes: &[u8],
@@ -117,8 +119,8 @@ pub(crate) fn body_length(
     size_of(length)
 }
 
-/// The value of the only field Authorization, empty if there is none or there are several. The fields are places in the
-/// bytes.
+/// The value of the only field Authorization, empty if there is none or there are several. The
+/// fields are places in the bytes.
 pub(crate) fn authorization_of<'b>(bytes: &'b [u8], fields: &[HeaderSpan]) -> &'b [u8]
     requires { All (IsHeaderWithin (length bytes.now)) fields.now }
     ensures { result.now ≡ spec.authorization (map (header_bytes bytes.now) fields.now) }
@@ -127,8 +129,8 @@ pub(crate) fn authorization_of<'b>(bytes: &'b [u8], fields: &[HeaderSpan]) -> &'
     if count == 1 { first } else { &bytes[..0] }
 }
 
-/// Whether the connection is to be closed after a message of this version, method and fields. The fields are places in the
-/// bytes.
+/// Whether the connection is to be closed after a message of this version, method and fields. The
+/// fields are places in the bytes.
 pub(crate) fn asks_to_close(bytes: &[u8], minor: u8, method: &[u8], fields: &[HeaderSpan]) -> bool
     requires { All (IsHeaderWithin (length bytes.now)) fields.now }
     ensures { result

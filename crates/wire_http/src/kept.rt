@@ -34,7 +34,8 @@ impl Kept {
         &self.bytes
     }
 
-    // Lets the link know when messages have used all its bytes, by a read into an empty buffer: it may rest then.
+    // Lets the link know when messages have used all its bytes, by a read into an empty buffer: it
+    // may rest then.
     fn rest<K: Link>(&mut self, link: &mut K) -> Result<(), WireFault>
         ensures bytes { bytes_of self.new ≡ bytes_of self.old }
         ensures left { IsTrue (K.tells link.old) → K.left link.new ≡ K.left link.old }

@@ -16,7 +16,8 @@ pub fn a_message_or_a_fault()
         → IsMessage bytes m next → IsFault bytes f → ⊥ }
 {}
 
-/// Bytes have at most one fault, unless they are undecided: a part of a head, which no head of at most 64 fields begins with.
+/// Bytes have at most one fault, unless they are undecided: a part of a head, which no head of at
+/// most 64 fields begins with.
 pub fn one_fault()
     ensures { (bytes : List ℕ) (f g : WireFault)
         → IsFault bytes f → IsFault bytes g → (f ≡ g) ⊎ IsUndecided bytes }

@@ -13,8 +13,8 @@ pub struct Message {
     pub method: Method,
     /// The target up to its first `?`, as bytes.
     pub path: Vec<u8>,
-    /// The value of its field Authorization, without white space around it. It is empty if there is none, and if there are
-    /// several, which no client may send.
+    /// The value of its field Authorization, without white space around it. It is empty if there is
+    /// none, and if there are several, which no client may send.
     pub authorization: Vec<u8>,
     /// The body, at most 4,096 bytes.
     pub body: Vec<u8>,

@@ -111,9 +111,9 @@ fn message_of<K: Link>(
     })
 }
 
-/// The message at the front of what was kept and what the link still gives, which then keep what follows it. None if
-/// neither has a byte. Each fault is one of these bytes, but for `Link`, where the link failed, and `Memory`. After a fault
-/// the connection is not to be read again.
+/// The message at the front of what was kept and what the link still gives, which then keep what
+/// follows it. None if neither has a byte. Each fault is one of these bytes, but for `Link`, where
+/// the link failed, and `Memory`. After a fault the connection is not to be read again.
 pub fn read_request<K: Link>(
     alloc: Global,
     link: &mut K,

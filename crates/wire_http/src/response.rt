@@ -66,8 +66,9 @@ fn push_fields(alloc: Global, out: &mut Vec<u8>, size: usize, close: bool) -> Re
     Ok(())
 }
 
-/// The response of this status, which has three digits, and this body, which is JSON. `close` adds the field by which the
-/// client learns that the connection ends after it. With status 401 a field has how a client may ask: by a bearer's token.
+/// The response of this status, which has three digits, and this body, which is JSON. `close` adds
+/// the field by which the client learns that the connection ends after it. With status 401 a field
+/// has how a client may ask: by a bearer's token.
 #[tactic(auto, unfolding(crate::specs::Responses::response))]
 pub fn response_text(
     alloc: Global,

@@ -1,10 +1,10 @@
 """Names that a file of Rattle imports and does not use, over .rt and .antt.
 
     tools/imports.py [CRATE..]         lists them; the last line has their number
-    tools/imports.py --fix [CRATE..]   takes those of `ghost use` in .rt files out; `rt check` then shows whether one was needed after all
+    tools/imports.py --fix [CRATE..]   takes those of .antt files and of `ghost use` in .rt files out; `rt check` then shows whether one was needed after all
 
 A name is used where it is a whole word outside of the import lines, and an operator where its sign is. Imports that are handed on (`pub use`) are
-left out, and so are traits, whose methods are used without their name. For .antt the kit has `rt check --fix-imports` and `rt tidy`.
+left out, and so are traits, whose methods are used without their name.
 """
 import argparse
 import collections
@@ -21,7 +21,8 @@ LETTER = r"[\w\-']"
 IMPORT = {".antt": re.compile(r"^(?:pub )?use [^\n]*\n", re.M),
           ".rt": re.compile(r"^[ \t]*(?:pub(?:\([a-z]+\))? )?(?:ghost )?use [^;]*;[^\n]*\n", re.M)}
 TRAIT = re.compile(r"(Disk|Link|Source|Sink|Files|Handler|Display|Write|Read|Clock|Doors|Rng|SeedableRng|RngCore|Sync|Wait|Watch|Gate|Hash|Hasher"
-                   r"|Digest|FromStr|Drop|BufRead|Seek|ToString|Iterator|Deref|DerefMut|Context|Net|Threads|As\w+|\w+Ext)")
+                   r"|Digest|FromStr|Drop|BufRead|Seek|ToString|Iterator|Deref|DerefMut|Context|Net|Threads|Door|GrowingLog|NextWord|ToSocketAddrs"
+                   r"|As\w+|\w+Ext)")
 
 
 @dataclasses.dataclass(frozen=True)
@@ -111,7 +112,7 @@ def without(statement: str, gone: List[str]) -> str:
 def fix(path: str) -> None:
     text, gone = text_of(path), collections.defaultdict(list)
     for one in unused(path):
-        if one.is_ghost:
+        if one.is_ghost or path.endswith(".antt"):
             gone[one.statement].append(one.part)
     for statement, parts in gone.items():
         text = text.replace(statement, without(statement, parts), 1)
@@ -126,11 +127,11 @@ def all_unused(names: List[str]) -> List[Unused]:
 def main(words):
     parser = argparse.ArgumentParser(description=__doc__, formatter_class=argparse.RawDescriptionHelpFormatter)
     parser.add_argument("crates", nargs="*", metavar="CRATE")
-    parser.add_argument("--fix", action="store_true", help="take those of `ghost use` out")
+    parser.add_argument("--fix", action="store_true", help="take those of .antt files and of `ghost use` out")
     given = parser.parse_args(words)
     names = given.crates or list(crates())
     if given.fix:
-        for path in (path for crate in names for path in files(crate, "src")):
+        for path in (path for crate in names for folder in ("src", "specs", "proofs") for path in files(crate, folder)):
             fix(path)
         text_of.cache_clear()
     found = all_unused(names)

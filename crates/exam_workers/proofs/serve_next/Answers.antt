@@ -1,4 +1,4 @@
-use Rattle.std.proofs.Common.{rules, arith, ◌≡◌, ◌∙◌, sym, ap, subst, refl, Option, Some, None}
+use Rattle.std.proofs.Common.{◌∙◌, sym, ap, subst, refl, None}
 use Rattle.std.specs.Bool.{IsTrue}
 use Rattle.std.specs.Option.{is_some}
 use Rattle.exam_edge.specs.Doors.{TakesNext}

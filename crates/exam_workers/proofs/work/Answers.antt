@@ -1,4 +1,4 @@
-use Rattle.std.proofs.Common.{rules, arith, ◌≡◌, refl}
+use Rattle.std.proofs.Common.{arith, refl}
 use Rattle.exam_workers.proofs.Serving.{serves_none, serves_then, fair_then}
 use Rattle.exam_workers.proofs.work.Goals as goal
 

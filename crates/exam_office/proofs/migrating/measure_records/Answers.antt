@@ -1,8 +1,7 @@
-use Rattle.std.proofs.Common.{◌≡◌, ℕ, ◌+◌, ◌*◌, ◌≤◌, List, [], ◌∷◌, ◌++◌, length, map, refl, sym, ◌∙◌, ap, subst, arith, length-append}
+use Rattle.std.proofs.Common.{◌≡◌, ℕ, ◌+◌, List, [], ◌∷◌, ◌++◌, length, refl, sym, ◌∙◌, ap, subst, arith}
 use Rattle.std.proofs.lemmas.Grind.{common_steps}
 use Rattle.bank_tables.specs.Tables.{Tables}
 use Rattle.form_model.specs.Plan.{Plan}
-use Rattle.history_model.specs.declared.entry.Entry.{Entry}
 use Rattle.answer_journal.specs.Walk.{first_payloads}
 use Rattle.exam_office.specs.Migrating.{AreMeasured, IsTakenOver}
 use Rattle.exam_office.specs.Opening.{IsNotTaken}

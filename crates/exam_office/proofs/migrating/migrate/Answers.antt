@@ -1,4 +1,4 @@
-use Rattle.std.proofs.Common.{◌≡◌, ℕ, List, inr, ◌∙◌, sym, ap, subst}
+use Rattle.std.proofs.Common.{ℕ, inr, ◌∙◌, sym, ap, subst}
 use Rattle.exam_edge.specs.Images.{latest}
 use Rattle.exam_edge.specs.ImageLaws.{only}
 use Rattle.answer_journal.specs.OpenFault.{IsWalkAnswer}

@@ -1,8 +1,7 @@
-use Rattle.std.proofs.Common.{◌≡◌, ◌⊎◌, ◌≤◌, inl, inr, ℕ, List, [], ◌∷◌, ◌++◌, length, map, ◌∙◌, sym, ap, subst}
-use Rattle.exam_edge.specs.Images.{Account, Allows, AtEachMoment, latest}
+use Rattle.std.proofs.Common.{◌≤◌, inr, ℕ, List, length, map, ◌∙◌, sym, subst}
+use Rattle.exam_edge.specs.Images.{Allows, AtEachMoment, latest}
 use Rattle.exam_records.specs.Spelling.{payload_of}
 use Rattle.answer_journal.specs.Moving.{IsImageOrUnmoved, IsUnmoved}
-use Rattle.answer_journal.specs.Opening.{tail_gates}
 use Rattle.answer_journal.specs.Versions.{counted_in}
 use Rattle.exam_office.specs.Files.{payload_in, IsImageOrStands}
 use Rattle.exam_office.proofs.Allowing.{allowed_by, moving, switching}

@@ -1,6 +1,5 @@
-use Rattle.std.proofs.Common.{◌≡◌, inl, inr, ℕ, ◌+◌, List, [], ◌∷◌, ◌++◌, length, map, sym, ◌∙◌, ap, subst, arith}
+use Rattle.std.proofs.Common.{◌≡◌, inr, ℕ, ◌+◌, List, [], ◌∷◌, ◌++◌, length, map, sym, ◌∙◌, ap, subst, arith}
 use Rattle.exam_edge.specs.Images.{Account, AtEachMoment, latest}
-use Rattle.history_model.specs.Judging.{Record}
 use Rattle.exam_records.specs.Spelling.{payload_of}
 use Rattle.answer_journal.specs.Moving.{IsImageOrUnmoved, IsMovingWith}
 use Rattle.exam_office.specs.Files.{payload_in}
@@ -9,7 +8,7 @@ use Rattle.exam_office.specs.Opening.{IsNotTaken}
 use Rattle.exam_office.proofs.Allowing.{moving}
 use Rattle.exam_office.proofs.FileLaws.{not_refused}
 use Rattle.exam_office.proofs.MigratingFiles.{device_fault, moving_same}
-use Rattle.exam_office.proofs.MigratingSteps.{IsNextMoved, moved_more, next_moved, room_then, second_next}
+use Rattle.exam_office.proofs.MigratingSteps.{moved_more, next_moved, room_then, second_next}
 use Rattle.exam_office.proofs.migrating.move_record.Goals as goal
 
 -- the old payload can't be read

@@ -1,12 +1,10 @@
-use Rattle.std.proofs.Common.{◌≡◌, ℕ, ◌<◌, List, [], ◌∷◌, ◌++◌, map, refl, sym, ◌∙◌, ap, subst, arith}
-use Rattle.bank_tables.specs.Tables.{Tables}
-use Rattle.form_model.specs.Plan.{Plan}
+use Rattle.std.proofs.Common.{ℕ, List, [], ◌∷◌, ◌++◌, map, refl, sym, ◌∙◌, subst, arith}
 use Rattle.exam_edge.specs.Images.{AtEachMoment, latest}
 use Rattle.history_model.specs.Judging.{Record}
 use Rattle.exam_records.specs.Spelling.{payload_of}
 use Rattle.answer_journal.specs.Moving.{IsImageOrUnmoved, IsUnmoved}
 use Rattle.exam_office.specs.Files.{payload_in}
-use Rattle.exam_office.specs.Migrating.{IsMovedUpTo, moved_file}
+use Rattle.exam_office.specs.Migrating.{IsMovedUpTo}
 use Rattle.exam_office.proofs.Allowing.{allowed_by}
 use Rattle.exam_office.proofs.MigratingFiles.{moving_on, moving_still, moving_unmoved}
 use Rattle.exam_office.proofs.MigratingSteps.{all_moved, moved_by, old_by, short_by}

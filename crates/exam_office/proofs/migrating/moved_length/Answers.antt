@@ -1,4 +1,4 @@
-use Rattle.std.proofs.Common.{◌≡◌, ℕ, ◌+◌, length, ◌∙◌, sym, subst}
+use Rattle.std.proofs.Common.{length, ◌∙◌, sym, subst}
 use Rattle.bank_tables.specs.Tables.{Tables}
 use Rattle.form_model.specs.Plan.{Plan}
 use Rattle.exam_office.specs.Migrating.{AreMeasured}

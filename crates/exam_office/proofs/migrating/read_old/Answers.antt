@@ -1,5 +1,4 @@
-use Rattle.std.proofs.Common.{◌≡◌, ℕ, ◌∷◌, ◌++◌, length, List, ◌∙◌}
-use Rattle.std.specs.declared.vec.Vec.{Vec}
+use Rattle.std.proofs.Common.{◌∷◌, ◌++◌, length, ◌∙◌}
 use Rattle.exam_office.proofs.MigratingSteps.{just_one, just_this, old_payload, old_place, old_within}
 use Rattle.exam_office.proofs.migrating.read_old.Goals as goal
 

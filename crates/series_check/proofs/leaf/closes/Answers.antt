@@ -4,7 +4,6 @@ use Rattle.std.specs.Int.{w128}
 use Rattle.std.proofs.Math.Bool.{true≢false}
 use Rattle.std.proofs.Math.Path.{fun_ext}
 use Rattle.series_model.specs.Series.{SeriesProblem}
-use Rattle.series_model.specs.SeriesBounds.{points}
 use Rattle.series_model.specs.SeriesPools.{goal_of}
 use Rattle.series_model.specs.SeriesVerdicts.{MaximumIsBelow}
 use Rattle.series_check.specs.Cuts.{problem_of, path_of}

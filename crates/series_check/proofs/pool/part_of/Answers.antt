@@ -1,5 +1,5 @@
 use Rattle.std.proofs.Common.{◌≡◌, ℕ, ◌*◌, ◌<◌, arith, ap, ◌∙◌, sym, subst, to_z, of_z}
-use Rattle.std.specs.Prelude.{ℤ, List, slice_index, ◌-ℤ◌, ◌*ℤ◌, pos}
+use Rattle.std.specs.Prelude.{ℤ, List, slice_index, ◌*ℤ◌, pos}
 use Rattle.std.specs.Int.{w128}
 use Rattle.std.proofs.Math.Path.{fun_ext}
 use Rattle.bank_tables.specs.Items.{Set}
@@ -15,7 +15,7 @@ use Rattle.series_model.specs.SeriesPaths.{SeriesPath}
 use Rattle.series_model.specs.SeriesPools.{length_side}
 use Rattle.series_check.specs.Cuts.{problem_of, one_form, path_of, form_path_of}
 use Rattle.series_check.specs.Maximum.{weight_at}
-use Rattle.series_check.specs.Pools.{share_top, own_multiplier, share_of}
+use Rattle.series_check.specs.Pools.{share_top, own_multiplier}
 use Rattle.series_check.proofs.PoolStepLaws.{less_both, share_is, share_near}
 use Rattle.series_check.proofs.Wide.{wide_top, nearer, read_back, three_summed}
 use Rattle.series_check.proofs.pool.part_of.Goals as goal

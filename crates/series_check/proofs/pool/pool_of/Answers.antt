@@ -1,5 +1,5 @@
-use Rattle.std.proofs.Common.{◌≡◌, ℕ, ◌+◌, ◌*◌, ◌<◌, ◌≤◌, true, arith, ap, ◌∙◌, sym, subst, to_z, add-one}
-use Rattle.std.specs.Prelude.{ℤ, pos, slice_index}
+use Rattle.std.proofs.Common.{◌≡◌, ℕ, ◌+◌, ◌*◌, ◌≤◌, true, arith, ap, ◌∙◌, sym, subst, to_z, add-one}
+use Rattle.std.specs.Prelude.{pos, slice_index}
 use Rattle.std.specs.Int.{w128}
 use Rattle.std.proofs.Math.Path.{fun_ext}
 use Rattle.bank_tables.specs.Sums.{sum_in}

@@ -1,6 +1,5 @@
-use Rattle.std.proofs.Common.{◌≡◌, false, get_or, refl, sym, subst}
+use Rattle.std.proofs.Common.{false, get_or, refl, sym, subst}
 use Rattle.bank_tables.specs.Items.{has}
-use Rattle.form_model.specs.Problem.{Problem}
 use Rattle.serving_model.specs.Seats.{answers}
 use Rattle.form_model.specs.Validity.{IsWellMade}
 use Rattle.shadow_select.proofs.ProblemLaws.{well_made, problem_made}

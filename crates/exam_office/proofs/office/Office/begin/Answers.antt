@@ -1,20 +1,17 @@
-use Rattle.std.proofs.Common.{◌≡◌, ◌∙◌, ◌++◌, ◌∷◌, [], ℕ, Option, None, Some, IsTrue, true, false, refl, sym, ap, subst}
+use Rattle.std.proofs.Common.{None, Some, IsTrue, sym, subst}
 use Rattle.history_model.specs.declared.entry.Entry.{Entry}
 use Rattle.bank_tables.specs.Tables.{Tables}
 use Rattle.form_model.specs.Plan.{Plan}
-use Rattle.certificate_model.specs.ProofTrees.{ProofTree}
-use Rattle.history_model.specs.declared.entry.Entry.TheVariants.{Closed}
-use Rattle.history_model.specs.Judging.{MayFollow, Record}
-use Rattle.history_model.specs.declared.refusal.Refusal.{Refusal}
+use Rattle.history_model.specs.Judging.{Record}
 use Rattle.answer_journal.specs.Journal.{accounts_of}
 use Rattle.exam_edge.specs.Images.{latest, AllImages}
 use Rattle.exam_office.specs.Files.{StandsSecond}
 use Rattle.exam_office.specs.Marks.{history}
 use Rattle.exam_office.specs.Writing.{with_record}
-use Rattle.exam_office.specs.Calls.{refuse, nothing, add, Calls, unmended, FindsStart, FindsClosing, IsStartFound}
+use Rattle.exam_office.specs.Calls.{refuse, nothing, add, unmended, FindsStart, IsStartFound}
 use Rattle.exam_office.proofs.Called.{call_refused, call_found, call_written, call_unwritten, left_mending, left_writing}
 use Rattle.exam_office.proofs.Calling.{mending_left}
-use Rattle.exam_office.proofs.Answered.{finds_there, looked, stands_written}
+use Rattle.exam_office.proofs.Answered.{finds_there}
 use Rattle.exam_office.proofs.Starts.{may_start, held_written}
 use Rattle.exam_office.proofs.office.Office.begin.Goals as goal
 

@@ -1,5 +1,5 @@
 use Rattle.history_model.specs.Judging.{Record}
-use Rattle.std.proofs.Common.{◌≡◌, ◌∙◌, ◌++◌, ◌∷◌, [], ℕ, Option, None, Some, Result, Ok, Err, OnOk, IsTrue, true, false, refl, sym, ap, subst}
+use Rattle.std.proofs.Common.{◌≡◌, Option, None, Some, Result, Ok, Err, OnOk, IsTrue, refl, sym, subst}
 use Rattle.bank_tables.specs.Tables.{Tables}
 use Rattle.form_model.specs.Plan.{Plan}
 use Rattle.history_model.specs.declared.entry.Entry.TheVariants.{Closed}

@@ -1,11 +1,10 @@
-use Rattle.std.proofs.Common.{◌≡◌, ◌∙◌, ◌++◌, ◌∷◌, [], ℕ, List, Option, None, Some, Result, Ok, Err, IsTrue, IfOk, IfErr, OnOk, true, false, refl, sym, ap, subst}
+use Rattle.std.proofs.Common.{◌≡◌, ℕ, List, Option, Some, Result, Ok, Err, IsTrue, IfOk, IfErr, OnOk, sym, subst}
 use Rattle.bank_tables.specs.Tables.{Tables}
 use Rattle.form_model.specs.Plan.{Plan}
 use Rattle.certificate_model.specs.ProofTrees.{ProofTree}
 use Rattle.constraint_model.specs.declared.problem.Problem.{Problem as Given}
 use Rattle.constraint_model.specs.Views.{problem_of}
 use Rattle.exam_edge.specs.Images.{latest, AllImages}
-use Rattle.history_model.specs.declared.entry.Entry.{Entry}
 use Rattle.history_model.specs.declared.place.Place.TheVariants.{Pending}
 use Rattle.history_model.specs.Judging.{MayFollow, Record}
 use Rattle.history_model.specs.Places.{place}
@@ -13,11 +12,10 @@ use Rattle.history_model.specs.declared.refusal.Refusal.{Refusal}
 use Rattle.answer_journal.specs.Journal.{accounts_of, tells_of}
 use Rattle.exam_office.specs.Marks.{history}
 use Rattle.exam_office.specs.Writing.{with_record}
-use Rattle.history_model.specs.declared.refusal.Refusal.TheVariants.{Memory}
 use Rattle.history_model.specs.declared.request.Request.TheVariants.{Look}
 use Rattle.exam_office.specs.Files.{StandsSecond}
 use Rattle.history_model.specs.Refusals.{refusal_of}
-use Rattle.exam_office.specs.Calls.{refuse, add, Calls, unmended, unwritten, IsAt}
+use Rattle.exam_office.specs.Calls.{refuse, add, Calls, unmended}
 use Rattle.exam_office.specs.Commits.{FindsCommit, MayBeCommitted}
 use Rattle.exam_office.proofs.Called.{call_refused, call_written, call_unwritten, left_mending, left_writing}
 use Rattle.exam_office.proofs.Calling.{mending_left}

@@ -1,7 +1,6 @@
 use Rattle.std.proofs.Common.{◌≡◌, ◌∙◌, ◌++◌, ℕ, List, [], ◌∷◌, length, drop, refl, sym, ap, subst, arith}
 use Rattle.std.specs.Option.{option_copied}
 use Rattle.bank_tables.specs.Tables.{Tables}
-use Rattle.form_model.specs.Plan.{Plan}
 use Rattle.form_model.specs.Validity.{IsPlanFor}
 use Rattle.history_model.specs.Judging.{Record}
 use Rattle.answer_journal.specs.Frames.{IsPayload}

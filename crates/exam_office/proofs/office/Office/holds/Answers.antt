@@ -1,4 +1,4 @@
-use Rattle.std.proofs.Common.{◌≡◌, ◌∙◌, ℕ, ◌≤◌, Option, None, ap, subst, arith}
+use Rattle.std.proofs.Common.{◌∙◌, ◌≤◌, ap, subst, arith}
 use Rattle.answer_journal.specs.Journal.{length_of}
 use Rattle.exam_office.specs.Running.{handed, Running}
 use Rattle.exam_office.proofs.PayloadLaws.{holds_now, images_now, length_now, limit_now, ready_now}

@@ -1,7 +1,6 @@
-use Rattle.std.proofs.Common.{◌≡◌, ◌∙◌, ℕ, ◌+◌, Option, Some, None, IsTrue, sym, ap, subst}
+use Rattle.std.proofs.Common.{◌≡◌, ◌∙◌, ℕ, ◌+◌, Some, None, IsTrue, sym, ap, subst}
 use Rattle.std.specs.List.{slice_get}
 use Rattle.answer_journal.specs.Journal.{length_of, tells_of, payloads_of}
-use Rattle.history_model.specs.declared.entry.Entry.{Entry}
 use Rattle.exam_office.specs.declared.cursor.Cursor.{Cursor}
 use Rattle.exam_office.specs.Marks.{history}
 use Rattle.exam_office.specs.Payloads.{IsCursorOf}

@@ -1,4 +1,4 @@
-use Rattle.std.proofs.Common.{◌≡◌, ◌≤◌, ◌+◌, ◌-◌, ℕ, Bool, IsTrue, Option, Some, None, true, is_some, arith, subst, sym, refl}
+use Rattle.std.proofs.Common.{◌≡◌, ◌≤◌, ◌+◌, ◌-◌, ℕ, IsTrue, Some, true, is_some, arith, subst, sym}
 use Rattle.std.specs.Prelude.{slice_get}
 use Rattle.journal_stream.specs.Tail.{IsGateOf, TailState}
 use Rattle.journal_stream.proofs.Placed.{gate_after, some_not, some_of}

@@ -1,4 +1,4 @@
-use Rattle.std.proofs.Common.{◌≡◌, ◌⊎◌, ◌<◌, ◌∙◌, ℕ, IsTrue, Option, Some, None, false, is_some, arith, subst, sym}
+use Rattle.std.proofs.Common.{◌≡◌, ◌⊎◌, ◌<◌, ◌∙◌, ℕ, Some, false, is_some, arith, subst, sym}
 use Rattle.journal_stream.specs.Tail.{IsGateOf, TailState}
 use Rattle.journal_stream.proofs.Marked.{first_gate}
 use Rattle.journal_stream.proofs.Placed.{none_of}
