@@ -38,7 +38,7 @@ use Rattle.exam_drill.specs.declared.fault.DrillFault.TheVariants.{JournalFull, 
 use Rattle.exam_drill.specs.Leading.{fault_of, IsDoneBy, LeadsTo, one_more, IsCutShort, IsStopped}
 
 -- ---- what the tests of a request refuse it for: never the journal's limit, the disk or memory
-abbrev IsTested : Refusal → Type 0
+abbrev pub IsTested : Refusal → Type 0
 IsTested (why.JournalFull size) = ⊥
 IsTested why.Disk = ⊥
 IsTested why.Memory = ⊥
@@ -96,7 +96,7 @@ tested_booking : (other : Bool) (o : Option Refusal) (r : Refusal) → (o ≡ So
 tested_booking true o r rest e = tested_is _ r tt e
 tested_booking false o r rest e = rest e
 
-tested : (b : Tables) (plan : Plan) (H : List Entry) (request : Request) (r : Refusal) → refusal_of b plan H request ≡ Some r → IsTested r
+pub tested : (b : Tables) (plan : Plan) (H : List Entry) (request : Request) (r : Refusal) → refusal_of b plan H request ≡ Some r → IsTested r
 tested b plan H (Begin booking) r e = tested_new plan H (holder H booking) r e
 tested b plan H (BeginWithout booking items) r e = tested_list b plan H items (holder H booking) r e
 tested b plan H (Answer session step response booking) r e =
@@ -138,7 +138,7 @@ refused_so : (b : Tables) (plan : Plan) (G : List Entry) (request : Request) (K 
 refused_so b plan G request K r d = refused_by b plan G request K r (refusal_of b plan G request) refl d
 
 -- ---- from an office with nothing in doubt
-one_of_none : (H G : List Entry) (doubt : Option Entry) → doubt ≡ None → IsOneOf H doubt G → G ≡ H
+pub one_of_none : (H G : List Entry) (doubt : Option Entry) → doubt ≡ None → IsOneOf H doubt G → G ≡ H
 one_of_none H _ doubt e (as_before _) = refl
 one_of_none H _ _ e (with_doubt entry) = cc
 

@@ -1,15 +1,13 @@
 -- One request of a replay: how it ends.
 use Rattle.std.specs.Prelude.{⊤}
-use Rattle.std.proofs.Common.{◌≡◌, ℕ, Bool, true, false, cond, List, [], ◌∷◌, Option, Some, None, inl, inr, Result, Ok, Err, OnOk, IfErr, IsTrue, nat_lt, ◌==◌, refl, sym, ap, ◌∙◌, subst}
+use Rattle.std.proofs.Common.{◌≡◌, ℕ, Bool, List, [], ◌∷◌, Option, Some, None, inl, inr, Result, Ok, Err, OnOk, IfErr, IsTrue, sym, ap, ◌∙◌, subst}
 use Rattle.std.proofs.lemmas.List.{append-nil}
 use Rattle.bank_tables.specs.Items.{Set, has}
-use Rattle.bank_tables.specs.Tables.{Tables, categories, size}
+use Rattle.bank_tables.specs.Tables.{Tables, size}
 use Rattle.exam_edge.specs.Images.{AtEachMoment}
 use Rattle.exam_edge.specs.ImageLaws.{weaker}
 use Rattle.form_model.specs.Plan.{Plan}
 use Rattle.history_model.specs.declared.entry.Entry.{Entry}
-use Rattle.history_model.specs.declared.place.Place.{Place}
-use Rattle.history_model.specs.declared.place.Place.TheVariants.{Pending, Waiting, Complete, Closed}
 use Rattle.history_model.specs.declared.refusal.Refusal.{Refusal}
 use Rattle.history_model.specs.declared.refusal.Refusal.TheVariants as why
 use Rattle.history_model.specs.declared.request.Reply.{Reply}
@@ -18,93 +16,20 @@ use Rattle.history_model.specs.declared.request.Request.{Request}
 use Rattle.history_model.specs.declared.request.Request.TheVariants.{Begin, BeginWithout, Answer, Close, Look, Exposure}
 use Rattle.history_model.specs.Halting.{IsNextOf}
 use Rattle.history_model.specs.Lists.{LacksForm, no_form, none_found}
-use Rattle.history_model.specs.Refusals.{recorded, refusal_of, refusal_of_new, is_list, has_list, refusal_of_list, refusal_at, refusal_of_answer, refusal_of_closing, in_session, is_of_another, unless_other}
-use Rattle.history_model.specs.Entries.{holder, list_of}
+use Rattle.history_model.specs.Refusals.{refusal_of}
 use Rattle.history_model.specs.Places.{place}
 use Rattle.history_model.specs.Requests.{Does, DoesUnless, DoesUnrefused}
 use Rattle.exam_office.specs.Asking.{AreGood, IsStoppedBy, Halts, Becomes, done, halted, IsAsked, IsBegunBy, IsOnTheWay, StandsForOne}
 use Rattle.exam_office.specs.Marks.{history, reach}
 use Rattle.exam_office.specs.Running.{Running}
-use Rattle.exam_office.specs.Writing.{IsOneOf, as_before, with_doubt}
 use Rattle.answer_journal.specs.Journal.{tells_of, accounts_of}
 use Rattle.replay_cli.specs.Replies.{line_of}
+use Rattle.exam_drill.proofs.AskingLaws.{tested, one_of_none}
 use Rattle.exam_program.specs.declared.halt.Halt.{Halt}
 use Rattle.exam_program.specs.declared.halt.Halt.TheVariants as halt
 use Rattle.exam_program.specs.Replays.{halt_of, IsFileOf, IsFullAt}
 use Rattle.exam_program.specs.Stopping.{IsDone, IsStopped, at_sessions, at_journal, at_disk, at_memory, at_line, IsUnprinted}
 use Rattle.exam_program.specs.Writing.{IsWritten}
-
--- ---- what the tests of a request refuse it for: never the journal's limit, the disk or memory
-abbrev IsTested : Refusal → Type 0
-IsTested (why.JournalFull size) = ⊥
-IsTested why.Disk = ⊥
-IsTested why.Memory = ⊥
-IsTested r = ⊤
-
-tested_if : (c : Bool) (x r : Refusal) → IsTested x → cond c (Some x) None ≡ Some r → IsTested r
-tested_if true x r tested e = let same : x ≡ r = cc in subst (λ (y : Refusal). IsTested y) same tested
-tested_if false x r tested e = cc
-
-tested_unless : (c : Bool) (x r : Refusal) → IsTested x → cond c None (Some x) ≡ Some r → IsTested r
-tested_unless true x r tested e = cc
-tested_unless false x r tested e = let same : x ≡ r = cc in subst (λ (y : Refusal). IsTested y) same tested
-
-tested_is : (x r : Refusal) → IsTested x → Some x ≡ Some r → IsTested r
-tested_is x r tested e = let same : x ≡ r = cc in subst (λ (y : Refusal). IsTested y) same tested
-
-tested_new : (plan : Plan) (H : List Entry) (o : Option ℕ) (r : Refusal) → refusal_of_new plan H o ≡ Some r → IsTested r
-tested_new plan H (Some session) r e = cc
-tested_new plan H None r e = tested_if _ _ r tt e
-
-tested_where : (b : Tables) (step response : ℕ) (at : Place) (r : Refusal) → refusal_at b step response at ≡ Some r → IsTested r
-tested_where b step response (Pending at) r e = tested_is _ r tt e
-tested_where b step response (Waiting at item proved) r e = here (at == step) (nat_lt response (categories b item)) r e
-  where
-    here : (same within : Bool) (r : Refusal) → cond same (cond within None (Some (why.BadResponse (categories b item)))) (Some (why.WrongStep at)) ≡ Some r → IsTested r
-    here true within r e = tested_unless within _ r tt e
-    here false within r e = tested_is _ r tt e
-tested_where b step response Complete r e = tested_is _ r tt e
-tested_where b step response Closed r e = tested_is _ r tt e
-
-tested_answer : (b : Tables) (step response : ℕ) (at : Place) (o : Option ℕ) (r : Refusal) → refusal_of_answer b step response at o ≡ Some r → IsTested r
-tested_answer b step response at (Some given) r e = tested_unless _ _ r tt e
-tested_answer b step response at None r e = tested_where b step response at r e
-
-tested_closing : (at : Place) (r : Refusal) → refusal_of_closing at ≡ Some r → IsTested r
-tested_closing (Pending step) r e = cc
-tested_closing (Waiting step item proved) r e = cc
-tested_closing Complete r e = tested_is _ r tt e
-tested_closing Closed r e = tested_is _ r tt e
-
-tested_in : (H : List Entry) (o : Option Place) (refusal : Place → Option Refusal) → ((at : Place) (r : Refusal) → refusal at ≡ Some r → IsTested r) → (r : Refusal)
-    → in_session H o refusal ≡ Some r → IsTested r
-tested_in H None refusal each r e = tested_is _ r tt e
-tested_in H (Some at) refusal each r e = each at r e
-
-tested_list : (b : Tables) (plan : Plan) (H : List Entry) (items : List ℕ) (o : Option ℕ) (r : Refusal) → refusal_of_list b plan H items o ≡ Some r → IsTested r
-tested_list b plan H items (Some session) r e = tested_unless (has_list items (list_of H session)) _ r tt e
-tested_list b plan H items None r e = here (is_list b items) e
-  where
-    here : (list : Bool) → cond list (refusal_of_new plan H None) (Some (why.NoItem (size b))) ≡ Some r → IsTested r
-    here true e = tested_new plan H None r e
-    here false e = tested_is _ r tt e
-
-tested_booking : (other : Bool) (o : Option Refusal) (r : Refusal) → (o ≡ Some r → IsTested r) → unless_other other o ≡ Some r → IsTested r
-tested_booking true o r rest e = tested_is _ r tt e
-tested_booking false o r rest e = rest e
-
-tested : (b : Tables) (plan : Plan) (H : List Entry) (request : Request) (r : Refusal) → refusal_of b plan H request ≡ Some r → IsTested r
-tested b plan H (Begin booking) r e = tested_new plan H (holder H booking) r e
-tested b plan H (BeginWithout booking items) r e = tested_list b plan H items (holder H booking) r e
-tested b plan H (Answer session step response booking) r e =
-    let other : Bool = is_of_another H session booking in
-    let why_at : Place → Option Refusal = λ at. refusal_of_answer b step response at (recorded H session step) in
-    tested_in H (place plan H session) (λ (at : Place). unless_other other (why_at at)) (λ at r. tested_booking other (why_at at) r (tested_answer b step response at (recorded H session step) r)) r e
-tested b plan H (Close session booking) r e =
-    let other : Bool = is_of_another H session booking in
-    tested_in H (place plan H session) (λ (at : Place). unless_other other (refusal_of_closing at)) (λ at r. tested_booking other (refusal_of_closing at) r (tested_closing at r)) r e
-tested b plan H (Look session) r e = tested_in H (place plan H session) (λ (at : Place). None) (λ at r f. cc) r e
-tested b plan H Exposure r e = cc
 
 -- ---- a request that is done, with a refusal as its reply
 -- only a want of a form without the items of a list refuses a request that passes the tests
@@ -137,10 +62,6 @@ refused_so : (b : Tables) (plan : Plan) (G : List Entry) (request : Request) (K 
 refused_so b plan G request K r of d = refused_by b plan G request K r (refusal_of b plan G request) of d
 
 -- ---- from an office with nothing in doubt
-one_of_none : (H G : List Entry) (doubt : Option Entry) → doubt ≡ None → IsOneOf H doubt G → G ≡ H
-one_of_none H _ doubt e (as_before _) = refl
-one_of_none H _ _ e (with_doubt entry) = cc
-
 module _ {D : Type 0} (request : Request) (old new : Running D) where
   module _ (reply : Reply) (sure : old.doubt ≡ None) (asked : IsAsked old request reply new) where
     from_is : asked.from ≡ history old.marks
