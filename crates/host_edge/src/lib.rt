@@ -26,6 +26,7 @@ mod threads;
 mod trouble;
 mod whole;
 
+pub use again::{connect_within, read_at_again};
 pub use closing::Closing;
 pub use host_disk::HostDisk;
 pub use host_door::HostDoor;

@@ -7,11 +7,11 @@ ghost use Rattle.host_stream.specs.HostJournal.{faults_of, none_served};
 use crate::pace::{PAUSE, Pace};
 use crate::server::count_entries;
 use exam_edge::Failed;
-use host_edge::Lines;
+use host_edge::{Lines, read_at_again};
 use journal_stream::{GrowingFile, Waited};
 use std::fs::File;
 use std::io::ErrorKind;
-use std::os::unix::fs::{FileExt, MetadataExt};
+use std::os::unix::fs::MetadataExt;
 use std::time::{Duration, Instant};
 use std::{fs, io, thread};
 
@@ -56,19 +56,6 @@ fn file_to_read(rt: &HostRuntime, path: &str) -> io::Result<File> {
 fn is_at(rt: &HostRuntime, path: &str, file: &File) -> io::Result<bool> {
     let (own, there) = (file.metadata()?, fs::metadata(rt, path)?);
     Ok(own.dev() == there.dev() && own.ino() == there.ino())
-}
-
-// Reads bytes of a file from a place on.
-fn read_at_again(file: &File, at: u64, buffer: &mut [u8]) -> io::Result<usize>
-    ensures { IfOk result (λ k. k ≤ length buffer.new) }
-{
-    for _ in 0..u64::MAX {
-        match file.read_at(buffer, at) {
-            Err(cause) if cause.kind() == ErrorKind::Interrupted => {}
-            answer => return answer,
-        }
-    }
-    Err(io::Error::new(ErrorKind::TimedOut, "interrupted on and on"))
 }
 
 impl HostJournal {

@@ -1,9 +1,10 @@
 //! The server of a journal, asked for its count of entries.
 
+use host_edge::connect_within;
 use serde_json::Value;
 use std::alloc::Global;
 use std::io::{Read, Write};
-use std::net::{TcpStream, ToSocketAddrs};
+use std::net::TcpStream;
 use std::time::Duration;
 use std::{io, str};
 
@@ -17,19 +18,6 @@ const PIECE: usize = 1024;
 
 /// The request: the health, which needs no token.
 const REQUEST: &str = "GET /health HTTP/1.1\r\nHost: shadowd\r\nConnection: close\r\n\r\n";
-
-// A connection to an address.
-fn connect(rt: &HostRuntime, address: &str) -> io::Result<TcpStream> {
-    let limit = Duration::from_millis(LIMIT);
-    let mut cause = io::Error::new(io::ErrorKind::InvalidInput, "no such address");
-    for place in address.to_socket_addrs(rt)? {
-        match TcpStream::connect_timeout(rt, &place, limit) {
-            Ok(stream) => return Ok(stream),
-            Err(fault) => cause = fault,
-        }
-    }
-    Err(cause)
-}
 
 // The response to a request, read to its end, or as far as it is to be read.
 fn response(rt: &HostRuntime, stream: &mut TcpStream) -> io::Result<Vec<u8>> {
@@ -58,10 +46,10 @@ fn entries_in(alloc: Global, response: &str) -> Option<u64> {
 /// How many entries the server at an address has, each of which it has settled; none where it does
 /// not say so.
 pub fn count_entries(rt: &HostRuntime, address: &str) -> Option<u64> {
-    let limit = Some(Duration::from_millis(LIMIT));
-    let mut stream = connect(rt, address).ok()?;
-    stream.set_read_timeout(limit).ok()?;
-    stream.set_write_timeout(limit).ok()?;
+    let limit = Duration::from_millis(LIMIT);
+    let mut stream = connect_within(rt, address, limit).ok()?;
+    stream.set_read_timeout(Some(limit)).ok()?;
+    stream.set_write_timeout(Some(limit)).ok()?;
     stream.write_all(REQUEST.as_bytes()).ok()?;
     let bytes = response(rt, &mut stream).ok()?;
     entries_in(rt.alloc(), str::from_utf8(&bytes).ok()?)
