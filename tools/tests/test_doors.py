@@ -314,6 +314,20 @@ class End(Doors):
 
 
 @needs_program
+class Words(Doors):
+    def test_words_that_are_no_command_open_and_make_nothing(self):
+        """The address is taken, so that each listening has its line; a journal, a reserve and a socket would be files of the folder."""
+        taken = socket.create_server(("127.0.0.1", 0))
+        self.addCleanup(taken.close)
+        address = "{}:{}".format(*taken.getsockname())
+        for words in (("serve",), ("serve", FILES[0]), ("serve", *FILES, "0"), ("serve", *FILES, "9", "9"), ("follow", FILES[0]), ("follow", *FILES, "9")):
+            with self.subTest(words):
+                done = self.run_program(*words, SHADOWD_LISTEN=address, SHADOWD_RESERVE="1000000", SHADOWD_END=self.path("end"))
+                said, errors = done.communicate(timeout=LIMIT)
+                self.assertEqual((done.returncode, said[:7], errors, os.listdir(self.folder)), (2, "usage: ", "", []))
+
+
+@needs_program
 class Follower(Doors):
     def test_silent_connections(self):
         """A leader gets in beside connections that send nothing, of which one ends now and then."""

@@ -296,6 +296,17 @@ struct Places {
     operator: Option<UnixListener>,
 }
 
+impl Places {
+    /// Nowhere: the words ask for no links.
+    fn nowhere() -> Places {
+        Places {
+            listener: None,
+            address: None,
+            operator: None,
+        }
+    }
+}
+
 /// Where the words have the program reached. If the address or the socket can't be had, there is no
 /// listener, and a line on standard error says why. Without the address the socket is left alone:
 /// it may be that of the server which has the address.
@@ -426,7 +437,11 @@ fn begin(
         listener,
         address,
         operator,
-    } = places_of(rt, lines, words, &settings)?;
+    } = if take_links(rt, words)? {
+        places_of(rt, lines, words, &settings)?
+    } else {
+        Places::nowhere()
+    };
     let closing = Closing::new(rt.alloc(), operator)?;
     let doors = doors_of(rt, lines, words, &settings, &closing, listener.as_ref())?;
     tell_links(rt, lines, words, &settings, address.as_ref());
@@ -683,9 +698,11 @@ fn do_words<R: Threads + Wait + Sync>(
     if ask_for_stream(words) {
         return stream(waiting, rt, lines, settings);
     }
-    let world = with_reserve(waiting, rt, lines, words, &settings, world);
     let mut finish = match take_links(rt, words) {
-        Ok(true) => run(waiting, rt.alloc(), words, world),
+        Ok(true) => {
+            let world = with_reserve(waiting, rt, lines, words, &settings, world);
+            run(waiting, rt.alloc(), words, world)
+        }
         Ok(false) => run_unlinked(rt, words, world),
         Err(Memory) => return print_end(rt, "no memory", NO_MEMORY),
     };
