@@ -60,7 +60,7 @@ def contract_from(lines, at):
     taken = [lines[at]]
     if re.search(r"\{\}?\s*$", taken[0]):
         return taken[0]
-    while not taken[-1].rstrip().endswith(";") and not re.match(rf"{indent}\{{", taken[-1]) and at + 1 < len(lines):
+    while not re.sub(r"//.*", "", taken[-1]).rstrip().endswith(";") and not re.match(rf"{indent}\{{", taken[-1]) and at + 1 < len(lines):
         at += 1
         taken.append(lines[at])
     return "\n".join(taken)
