@@ -81,9 +81,9 @@ def old_set_aside(session, cause, nodes, tree):
     return b"\2" + session.to_bytes(4, "big") + bytes([cause]) + nodes.to_bytes(2, "big") + tree
 
 
-def served(session, step, item, form, proved=True, tree=bytes.fromhex("000600")):
+def served(session, step, item, form, proved=True, tree=bytes.fromhex("000600"), nodes=1):
     head = b"\3" + session.to_bytes(4, "big") + step.to_bytes(2, "big") + item.to_bytes(2, "big") + item_set(form)
-    return head + bytes([proved]) + (1).to_bytes(2, "big") + tree
+    return head + bytes([proved]) + nodes.to_bytes(2, "big") + tree
 
 
 def answered(session, step, response):

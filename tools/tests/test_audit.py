@@ -208,6 +208,42 @@ class Lists(Files):
         self.assertEqual(self.said(b"SHADOWJ1" + framed(payload) + b"\0"), (6, "journal: record at 8"))
 
 
+class Fixes(Files):
+    """Session 0 of bank A is served by a tree that fixes items.
+
+    At point 1 the items weigh 1280, 2048, 2304, 1536, 1024 and 1792. The row of items 2 and 5 costs 512 and a place 1536, so the margins are
+    -256, 512, 256, 0, -512 and -256, and the bound is 512 + 3 * 1536 + 512 + 256 = 256 * 23, the objective of {1, 2, 3}. Goal 22 leaves a room
+    of 1: items 1 and 2 are in, 0, 4 and 5 are out, and item 3 fills the form. Goal 23 leaves a room of -255: each item is out.
+    """
+
+    COSTS = bytes.fromhex("01 0002 0003 00000200 0180 00000600")
+    LENGTH_IMPOSSIBLE, WHOLE, OPEN = b"\5\0", b"\6", b"\7"
+
+    def audited(self, goal, leaf):
+        """What the Python audit has of a journal with a start and an item whose tree has this goal and this leaf, and what the program has."""
+        tree = self.COSTS + b"\x08\0" + goal.to_bytes(4, "big") + leaf
+        with open(self.path("journal"), "wb") as file:
+            file.write(a.journal([a.started(0, 70), a.served(0, 0, 2, {1, 2, 3}, tree=tree, nodes=2)]))
+        status, said, _ = self.tool("audit", self.bank, self.plan, self.path("journal"))
+        if os.path.exists(PROGRAM):
+            done = subprocess.run([PROGRAM, "audit", self.bank, self.plan], stdin=subprocess.DEVNULL, capture_output=True, text=True,
+                                  env={"SHADOWD_JOURNAL": self.path("journal")})
+            self.assertEqual((done.returncode, done.stdout), (status, said))
+        return status, said.splitlines()[0]
+
+    def test_a_tree_that_shows_its_form_best(self):
+        for goal, leaf in ((22, self.WHOLE), (23, self.LENGTH_IMPOSSIBLE)):
+            with self.subTest(goal):
+                self.assertEqual(self.audited(goal, leaf), (0, "entries 2 sessions 1 finished 0 proved 1 unproved 0 aside 0 nodes 2"))
+
+    def test_a_tree_that_does_not(self):
+        """A goal above the form's objective; a row that is possible; an open leaf at a whole form; and goal 17, whose room of 1281 settles nothing."""
+        at = len(a.journal([a.started(0, 70)])) - 1
+        for goal, leaf in ((24, self.LENGTH_IMPOSSIBLE), (22, self.LENGTH_IMPOSSIBLE), (22, self.OPEN), (17, self.WHOLE)):
+            with self.subTest((goal, leaf)):
+                self.assertEqual(self.audited(goal, leaf), (6, f"journal: bad tree at {at}"))
+
+
 class Seals(Folder):
     """A seal is the SHA-256 of the bytes that no later record changes."""
 

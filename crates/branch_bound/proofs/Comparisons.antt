@@ -1,14 +1,14 @@
 -- Comparing forms.
-use Rattle.std.proofs.Common.{◌≤◌, inl, inr, [], arith, Option, Some, None}
+use Rattle.std.proofs.Common.{ℕ, ◌≤◌, inl, inr, [], arith, Option, Some, None}
 use Rattle.std.proofs.lemmas.Int.{ints}
 use Rattle.bank_tables.specs.Items.{Set}
 use Rattle.certificate_model.specs.declared.node.Node.{Node}
-use Rattle.certificate_model.specs.declared.node.Node.TheVariants.{BranchItem, BranchStimulus, Bound, Ray, Count, Whole, Open}
+use Rattle.certificate_model.specs.declared.node.Node.TheVariants.{BranchItem, BranchStimulus, Bound, Ray, Count, Whole, Open, Fix}
 use Rattle.form_model.specs.Problem.{Problem}
 use Rattle.form_model.specs.Forms.{objective}
 use Rattle.certificate_model.specs.Paths.{Path}
 use Rattle.certificate_model.specs.ProofTrees.{ProofTree}
-use Rattle.certificate_model.specs.Verdicts.{IsFormOrNone, IsSound, CandidateIsSettled, only_candidate, ClosesByBound}
+use Rattle.certificate_model.specs.Verdicts.{IsFormOrNone, IsSound, CandidateIsSettled, only_candidate, ClosesByBound, ReachesGoal}
 use Rattle.branch_bound.specs.Comparing.{IsAsGood}
 use Rattle.branch_bound.specs.Searches.{plain_tree, Suits}
 
@@ -43,11 +43,17 @@ module _ (P : Problem) (T : ProofTree) (p : Path) where
         below = let b = c.below in let more : objective P X ≤ objective P Y = as_good form in omega (arith, ints);
       }
 
+  reaches : (X Y : Option Set) (goal : ℕ) → IsFormOrNone P X → IsAsGood P X Y → ReachesGoal P X goal → ReachesGoal P Y goal
+  reaches None Y goal form as_good r = absurd r
+  reaches (Some X) None goal form as_good r = absurd (as_good form)
+  reaches (Some X) (Some Y) goal form as_good r = omega (arith, as_good form)
+
   pub sound : (X Y : Option Set) (node : Node) → IsFormOrNone P X → IsAsGood P X Y → IsSound P X T p node → IsSound P Y T p node
   sound X Y (BranchItem i) form as_good s = s
   sound X Y (BranchStimulus t) form as_good s = s
   sound X Y (Bound v) form as_good s = (s.0, s.1, closes X Y _ form as_good s.2)
   sound X Y (Ray v) form as_good s = s
+  sound X Y (Fix v goal) form as_good s = (s.0, s.1, reaches X Y goal form as_good s.2, s.3)
   sound X Y (Count r) form as_good s = s
   sound X Y Whole form as_good s = settled X Y (only_candidate P p) form as_good s
   sound X Y Open form as_good s = s

@@ -11,7 +11,7 @@ use Rattle.bank_tables.specs.Tables.{Tables, size, stimulus}
 use Rattle.bank_tables.specs.Validity.{IsBank, HoldsItems}
 use Rattle.bank_tables.proofs.Bits.{size_of-below}
 use Rattle.bank_tables.proofs.BankLaws.{greatest_at_most}
-use Rattle.certificate_model.specs.declared.node.Node.TheVariants.{BranchItem, BranchStimulus, Bound, Ray, Count, Whole, Open}
+use Rattle.certificate_model.specs.declared.node.Node.TheVariants.{BranchItem, BranchStimulus, Bound, Ray, Count, Whole, Open, Fix}
 use Rattle.certificate_model.specs.declared.node.Node.{Node}
 use Rattle.certificate_model.specs.Counting.{taken_or_free, length_impossible, is_impossible, stimulus_impossible, IsFirstImpossible}
 use Rattle.form_model.specs.Forms.{objective, size_in, stimuli_of}
@@ -20,6 +20,7 @@ use Rattle.form_model.specs.Problem.{Problem}
 use Rattle.certificate_model.specs.Relaxed.{Multipliers}
 use Rattle.lagrange_bound.specs.Bounds.{IsBound}
 use Rattle.form_model.specs.Validity.{IsWellMade}
+use Rattle.certificate_model.specs.ProofTrees.{ProofTree}
 use Rattle.certificate_model.specs.Verdicts.{IsStimulusBranch, only_candidate, CandidateIsSettled, ClosesByBound, IsFormOrNone, below}
 use Rattle.certificate_model.specs.Spending.{IsBranch, ExceedsStart}
 use Rattle.form_model.proofs.SumLaws.{at_most_greatest, either, any_elim, any_intro, or_right, or_true}
@@ -168,6 +169,7 @@ module _ (P : Problem) (p : Path) where
   pub branch_suits : (B C X : Option Set) (node : Node) → IsBank P.bank → GoesOn P p B C → IsBranchOn P p node → Suits P X p node
   branch_suits B C X (BranchItem i) bank on is = record { sound = is; spent = (is, on.unresolved); pruned = none_first on.unresolved.possible (BranchItem i); number = let within = free_in_bank P p i is in omega (arith, bank.few) }
   branch_suits B C X (BranchStimulus s) bank on is = record { sound = is; spent = (is, on.unresolved); pruned = none_first on.unresolved.possible (BranchStimulus s); number = (is.first, omega (arith, is.last, few_stimuli P bank)) }
+  branch_suits B C X (Fix v goal) bank on is = absurd is
   branch_suits B C X (Bound v) bank on is = absurd is
   branch_suits B C X (Ray v) bank on is = absurd is
   branch_suits B C X (Count r) bank on is = absurd is
@@ -177,20 +179,22 @@ module _ (P : Problem) (p : Path) where
   pub is_branch : (node : Node) → IsBranchOn P p node → IsBranch node
   is_branch (BranchItem i) is = tt
   is_branch (BranchStimulus s) is = tt
+  is_branch (Fix v goal) is = tt
   is_branch (Bound v) is = is
   is_branch (Ray v) is = is
   is_branch (Count r) is = is
   is_branch Whole is = is
   is_branch Open is = is
 
-  pub two_sides : (node : Node) → IsBranchOn P p node → below P p node ≡ side_of P p node true ∷ side_of P p node false ∷ []
-  two_sides (BranchItem i) is = refl
-  two_sides (BranchStimulus s) is = refl
-  two_sides (Bound v) is = absurd is
-  two_sides (Ray v) is = absurd is
-  two_sides (Count r) is = absurd is
-  two_sides Whole is = absurd is
-  two_sides Open is = absurd is
+  pub two_sides : (T : ProofTree) (node : Node) → IsBranchOn P p node → below P T p node ≡ side_of P p node true ∷ side_of P p node false ∷ []
+  two_sides T (BranchItem i) is = refl
+  two_sides T (BranchStimulus s) is = refl
+  two_sides T (Fix v goal) is = absurd is
+  two_sides T (Bound v) is = absurd is
+  two_sides T (Ray v) is = absurd is
+  two_sides T (Count r) is = absurd is
+  two_sides T Whole is = absurd is
+  two_sides T Open is = absurd is
 
   -- the items taken on a side are of the bank
   pub side_in_bank : (node : Node) (side : Bool) → IsBranchOn P p node → HoldsItems P.bank p.taken → HoldsItems P.bank ((side_of P p node side).taken)
@@ -202,6 +206,7 @@ module _ (P : Problem) (p : Path) where
   side_in_bank (BranchItem i) false is within = within
   side_in_bank (BranchStimulus s) true is within = within
   side_in_bank (BranchStimulus s) false is within = within
+  side_in_bank (Fix v goal) side is within = absurd is
   side_in_bank (Bound v) side is within = absurd is
   side_in_bank (Ray v) side is within = absurd is
   side_in_bank (Count r) side is within = absurd is

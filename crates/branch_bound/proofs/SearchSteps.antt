@@ -8,7 +8,7 @@ use Rattle.form_model.specs.Problem.{Problem}
 use Rattle.certificate_model.specs.Paths.{Path}
 use Rattle.certificate_model.specs.Verdicts.{IsFormOrNone}
 use Rattle.branch_bound.specs.Comparing.{IsAsGood}
-use Rattle.branch_bound.specs.Searches.{IsSearch, Adds, GoesOn, IsBranchOn, side_of}
+use Rattle.branch_bound.specs.Searches.{plain_tree, IsSearch, Adds, GoesOn, IsBranchOn, side_of}
 use Rattle.branch_bound.proofs.Comparisons.{as_good-refl}
 use Rattle.branch_bound.proofs.LeafLaws.{open_suits, branch_suits, is_branch, two_sides, side_in_bank}
 use Rattle.branch_bound.proofs.SearchLaws.{branch_search}
@@ -43,7 +43,7 @@ module _ (P : Problem) (p : Path) (B C : Option Set) (on : GoesOn P p B C) where
       → Adds P (side_of P p node false) D m between E n after
       → Adds P p B k before E n after
   branch_adds node D E j k m n before here between after bank is less pushed first second =
-      let whole = branch_search P p (side_of P p node true) (side_of P p node false) node C D E j m n first.nodes second.nodes (two_sides P p node is) (is_branch P p node is) (λ X. branch_suits P p B C X node bank on is) first.search second.search in
+      let whole = branch_search P p (side_of P p node true) (side_of P p node false) node C D E j m n first.nodes second.nodes (two_sides P p (plain_tree []) node is) (is_branch P p node is) (λ X. branch_suits P p B C X node bank on is) first.search second.search in
       let from : IsSearch P p B (j + 1) E n (node ∷ (first.nodes ++ second.nodes)) = subst (λ (Z : Option Set). IsSearch P p Z (j + 1) E n (node ∷ (first.nodes ++ second.nodes))) on.same whole in
       record {
         nodes = node ∷ (first.nodes ++ second.nodes);

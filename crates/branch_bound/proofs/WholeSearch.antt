@@ -63,7 +63,7 @@ module _ (P : Problem) (B C : Option Set) (k m : ℕ) (nodes : List Node) (searc
         nodes = elim search.ended [ inl none ↦ absurd (omega arith) | inr none ↦ (number budget is half).1 none ];
         some_open = some;
         depth_first = search.depth_first;
-        unresolved = all_spent P C nodes (root P ∷ []) suit;
+        unresolved = all_spent P C nodes nodes (root P ∷ []) suit;
       }
 
   pub is_assembly : (hint : Option Set) (budget : ℕ) (outcome : Outcome)
@@ -81,5 +81,5 @@ module _ (P : Problem) (B C : Option Set) (k m : ℕ) (nodes : List Node) (searc
         firm = shown.firm;
         start = shown.as_good P.start (as_good-trans P P.start B C form start search.no_worse);
         hint = shown.as_good hint (as_good-trans P hint B C form hinted search.no_worse);
-        pruned = all_pruned P C nodes (root P ∷ []) suit;
+        pruned = all_pruned P C nodes nodes (root P ∷ []) suit;
       }

@@ -18,7 +18,7 @@ pub record PrunesTo (P : Problem) (T : ProofTree) (at : ℕ) (p : Path) (next : 
   pub on : at < next
   pub within : next ≤ length T.nodes
   pub makes : (wait : ℕ) → AreTrees (suc wait) (drop at T.nodes) → AreTrees wait (drop next T.nodes)
-  pub pruned : (paths : List Path) → ArePruned P (drop next T.nodes) paths → ArePruned P (drop at T.nodes) (p ∷ paths)
+  pub pruned : (paths : List Path) → ArePruned P T (drop next T.nodes) paths → ArePruned P T (drop at T.nodes) (p ∷ paths)
 
 abbrev pub IsPruning : Problem → ProofTree → ℕ → Path → Option ℕ → Type 0
 IsPruning P T at p (Some next) = PrunesTo P T at p next

@@ -20,7 +20,7 @@ plain_tree nodes = record { vectors = [] ∷ []; nodes = nodes }
 -- budget, and where a row is impossible by counting the Count leaf of the lowest one
 pub record Suits (P : Problem) (X : Option Set) (p : Path) (node : Node) : Type 0 where
   pub sound : IsSound P X (plain_tree []) p node
-  pub spent : IsSpentNode P p node
+  pub spent : IsSpentNode P (plain_tree []) p node
   pub pruned : (r : ℕ) → IsFirstImpossible P p (Some r) → node ≡ Count r
   pub number : IsNode node
 
@@ -29,7 +29,7 @@ abbrev pub AllSuit : Problem → Option Set → List Node → List Path → Type
 AllSuit P X [] [] = Unit {0}
 AllSuit P X [] (p ∷ paths) = ⊥
 AllSuit P X (node ∷ nodes) [] = ⊥
-AllSuit P X (node ∷ nodes) (p ∷ paths) = Suits P X p node × AllSuit P X nodes (below P p node ++ paths)
+AllSuit P X (node ∷ nodes) (p ∷ paths) = Suits P X p node × AllSuit P X nodes (below P (plain_tree []) p node ++ paths)
 
 -- a search through the path, with the form B or none and k branches left, made these nodes, and
 -- left the form or none C and m branches
@@ -55,7 +55,7 @@ ExceedsForm P p (Some X) = PlainBoundExceeds P p X
 
 -- the leaf ends the path, with the form C or none; or none does, and the form or none is as before
 pub record Ends (P : Problem) (p : Path) (B C : Option Set) (node : Node) : Type 0 where
-  pub leaf : below P p node ≡ []
+  pub leaf : below P (plain_tree []) p node ≡ []
   pub no_branch : IsBranch node → ⊥
   pub not_open : open_leaves (node ∷ []) ≡ 0
   pub form : IsFormOrNone P C

@@ -21,7 +21,12 @@ pub fn is_branch_on(problem: &Problem, cut: &Cut, node: &Node) -> bool
     match node {
         Node::BranchItem(item) => cut.free.has(*item),
         Node::BranchStimulus(stimulus) => cut.opened.has(u16::from(*stimulus)),
-        Node::Bound(_) | Node::Ray(_) | Node::Count(_) | Node::Whole | Node::Open => false,
+        Node::Bound(_)
+        | Node::Ray(_)
+        | Node::Count(_)
+        | Node::Whole
+        | Node::Open
+        | Node::Fix(_, _) => false,
     }
 }
 
@@ -39,7 +44,12 @@ pub fn side(problem: &Problem, cut: &Cut, branch: &Node, with: bool) -> Cut
     match branch {
         Node::BranchItem(item) => cut.with_item(problem, *item, with),
         Node::BranchStimulus(stimulus) => cut.with_stimulus(problem, *stimulus, with),
-        Node::Bound(_) | Node::Ray(_) | Node::Count(_) | Node::Whole | Node::Open => *cut,
+        Node::Bound(_)
+        | Node::Ray(_)
+        | Node::Count(_)
+        | Node::Whole
+        | Node::Open
+        | Node::Fix(_, _) => *cut,
     }
 }
 

@@ -28,8 +28,8 @@ fn is_count_of(row: Option<u8>, node: &Node) -> bool
 }
 
 /// The number of the first node after the subtree at a node whose path is given. None if a path of
-/// the subtree goes on past a row that is impossible by counting, or if a branch is on an item that
-/// isn't free or a stimulus that isn't open.
+/// the subtree goes on past a row that is impossible by counting, if a branch is on an item that
+/// isn't free or a stimulus that isn't open, or if a node fixes items: no search makes one.
 fn pruned_to(problem: &Problem, tree: &Tree, at: u16, cut: &Cut) -> Option<u16>
     requires well_made { IsWellMade (problem_of problem.now) }
     requires cut { IsCut (problem_of problem.now) cut.now }

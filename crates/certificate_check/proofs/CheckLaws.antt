@@ -30,7 +30,7 @@ wrong_end : (P : Problem) (X : Option Set) (T : ProofTree) (verdict : Verdict) �
 wrong_end P X T verdict ends bad at met [] [] gives = ends met gives
 wrong_end P X T verdict ends bad at met [] (p ∷ paths) gives = gives
 wrong_end P X T verdict ends bad at met (node ∷ nodes) [] gives = gives
-wrong_end P X T verdict ends bad at met (node ∷ nodes) (p ∷ paths) (inl sound) = wrong_end P X T verdict ends bad (at + 1) (met + open_leaf node) nodes (below P p node ++ paths) sound.1
+wrong_end P X T verdict ends bad at met (node ∷ nodes) (p ∷ paths) (inl sound) = wrong_end P X T verdict ends bad (at + 1) (met + open_leaf node) nodes (below P T p node ++ paths) sound.1
 wrong_end P X T verdict ends bad at met (node ∷ nodes) (p ∷ paths) (inr unsound) = bad at unsound.0 unsound.2
 
 not_optimal : (met : ℕ) → Optimal ≡ verdict_of None met → ⊥

@@ -5,6 +5,8 @@ pub mod Candidates
 pub mod Steps
 pub mod TopLaws
 pub mod CapLaws
+pub mod CostLaws
+pub mod FixSteps
 pub mod MaximumLaws
 pub mod MemberSums
 pub mod WalkSteps

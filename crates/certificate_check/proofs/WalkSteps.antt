@@ -27,7 +27,7 @@ begins_within (node ∷ xs) (suc i) wait trees = omega (arith, begins_within xs 
 
 module _ (P : Problem) (X : Option Set) (T : ProofTree) (at met : ℕ) (p left right : Path) (node : Node)
     (here : drop at T.nodes ≡ node ∷ drop (at + 1) T.nodes)
-    (two : below P p node ≡ left ∷ right ∷ [])
+    (two : below P T p node ≡ left ∷ right ∷ [])
     (closed : open_leaf node ≡ 0)
     (makes : (nodes : List Node) (wait : ℕ) → AreTrees (suc wait) (node ∷ nodes) → AreTrees (suc (suc wait)) nodes)
     (sound : IsSound P X T p node)
@@ -51,11 +51,36 @@ module _ (P : Problem) (X : Option Set) (T : ProofTree) (at met : ℕ) (p left r
         }
     both_walks (Err unsound) second = λ paths. opened paths (Bad unsound.node unsound.reason) (second paths)
 
+-- a Fix, and the walk below it
+pub fix_walks : (P : Problem) (X : Option Set) (T : ProofTree) (at met : ℕ) (p q : Path) (node : Node)
+    → drop at T.nodes ≡ node ∷ drop (at + 1) T.nodes
+    → below P T p node ≡ q ∷ []
+    → open_leaf node ≡ 0
+    → ((nodes : List Node) (wait : ℕ) → AreTrees (suc wait) (node ∷ nodes) → AreTrees (suc wait) nodes)
+    → IsSound P X T p node
+    → (result : Result Walked Unsound)
+    → IsWalk P X T (at + 1) met q result
+    → IsWalk P X T at met p result
+fix_walks P X T at met p q node here one closed makes sound (Ok walked) first =
+    record {
+      on = omega (arith, first.on);
+      within = first.within;
+      makes = λ wait h. first.makes wait (makes (drop (at + 1) T.nodes) wait (rw here at h));
+      few = omega (arith, first.on, first.few);
+      gives = λ paths verdict gives.
+          let e : met + open_leaf node ≡ met = ap (λ (k : ℕ). met + k) closed ∙ add-zero met in
+          rw here (inl (sound, rw (e, one) (first.gives paths verdict gives)));
+    }
+fix_walks P X T at met p q node here one closed makes sound (Err unsound) first =
+    λ paths.
+    let e : met + open_leaf node ≡ met = ap (λ (k : ℕ). met + k) closed ∙ add-zero met in
+    rw here (inl (sound, rw (e, one) (first paths)))
+
 -- a leaf that is not open
 pub leaf_passes : (P : Problem) (X : Option Set) (T : ProofTree) (at met : ℕ) (p : Path) (node : Node)
     → drop at T.nodes ≡ node ∷ drop (at + 1) T.nodes
     → at < length T.nodes
-    → below P p node ≡ []
+    → below P T p node ≡ []
     → open_leaf node ≡ 0
     → ((nodes : List Node) (wait : ℕ) → AreTrees (suc wait) (node ∷ nodes) → AreTrees wait nodes)
     → IsSound P X T p node
@@ -97,7 +122,7 @@ fails_here P X T at met p node reason here unsound = λ paths. rw here (inr (rea
 -- the left subtree has an unsound node
 pub left_fails : (P : Problem) (X : Option Set) (T : ProofTree) (at met : ℕ) (p left right : Path) (node : Node) (unsound : Unsound)
     → drop at T.nodes ≡ node ∷ drop (at + 1) T.nodes
-    → below P p node ≡ left ∷ right ∷ []
+    → below P T p node ≡ left ∷ right ∷ []
     → open_leaf node ≡ 0
     → IsSound P X T p node
     → IsWalk P X T (at + 1) met left (Err unsound)

@@ -1,9 +1,11 @@
 pub mod Cuts
 pub mod Weights
 pub mod Caps
+pub mod Costs
 pub mod Tops
 pub mod Maximum
 pub mod Answers
+pub mod Fixes
 pub mod Walks
 pub mod Spends
 pub mod Columns

@@ -21,10 +21,10 @@ pub record SpendsTo (P : Problem) (T : ProofTree) (at : ℕ) (p : Path) (next : 
   pub on : at < next
   pub within : next ≤ length T.nodes
   pub makes : (wait : ℕ) → AreTrees (suc wait) (drop at T.nodes) → AreTrees wait (drop next T.nodes)
-  pub whole : (paths : List Path) → AreSpentNodes P (drop next T.nodes) paths → AreSpentNodes P (drop at T.nodes) (p ∷ paths)
-  pub rest : (paths : List Path) → AreSpentNodes P (drop at T.nodes) (p ∷ paths) → AreSpentNodes P (drop next T.nodes) paths
+  pub whole : (paths : List Path) → AreSpentNodes P T (drop next T.nodes) paths → AreSpentNodes P T (drop at T.nodes) (p ∷ paths)
+  pub rest : (paths : List Path) → AreSpentNodes P T (drop at T.nodes) (p ∷ paths) → AreSpentNodes P T (drop next T.nodes) paths
 
 -- so it is, or a node is not as in a spent tree
 abbrev pub IsSpending : Problem → ProofTree → ℕ → Path → Option ℕ → Type 0
 IsSpending P T at p (Some next) = SpendsTo P T at p next
-IsSpending P T at p None = (paths : List Path) → AreSpentNodes P (drop at T.nodes) (p ∷ paths) → ⊥
+IsSpending P T at p None = (paths : List Path) → AreSpentNodes P T (drop at T.nodes) (p ∷ paths) → ⊥

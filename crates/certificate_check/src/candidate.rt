@@ -16,7 +16,7 @@ use constraint_model::counts::{size_in, stimuli_used};
 use constraint_model::{Problem, is_form, objective};
 
 /// Whether the set has an item of the bank.
-fn has_members(bank: &Bank, items: &ItemSet) -> bool
+pub fn has_members(bank: &Bank, items: &ItemSet) -> bool
     ensures { result ≡ any_below (size bank.now) (has items.now) }
 {
     let mut found = false;

@@ -25,7 +25,7 @@ pub fn has_cap(sides: &[u32; 386]) -> bool
 }
 
 /// The cap: the multiplier of its low side less that of its high side.
-fn cap(sides: &[u32; 386]) -> i64
+pub fn cap(sides: &[u32; 386]) -> i64
     requires { AreMultipliers (slice_index sides.now) }
     ensures cap { result ≡ price (slice_index sides.now) cap_side }
     ensures within { IsWithin 16777216 result }

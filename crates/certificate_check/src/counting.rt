@@ -92,7 +92,7 @@ pub fn is_impossible(problem: &Problem, standing: &Standing, row: u8) -> bool
 }
 
 /// How many items of a set each stimulus has, by its number; at 0 those of no stimulus.
-fn items_of_each(bank: &Bank, items: &ItemSet) -> [u32; 65]
+pub fn items_of_each(bank: &Bank, items: &ItemSet) -> [u32; 65]
     ensures { (s : ℕ) → s < 65 →
         get_or result s 0 ≡ items_of bank.now s (has items.now) }
 {

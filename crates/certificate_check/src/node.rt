@@ -12,6 +12,7 @@ ghost use Rattle.certificate_check.specs.Cuts.{path_of, IsStanding};
 
 use crate::candidate::{is_settled, only_candidate};
 use crate::counting::is_impossible;
+use crate::fix::fix_fault;
 use crate::leaf::{bound_fault, ray_fault};
 use crate::standing::Standing;
 use bank_tables::ItemSet;
@@ -109,5 +110,6 @@ pub fn node_fault(
         }
         Node::Whole => whole_fault(problem, form, tree, standing),
         Node::Open => open_fault(problem, form, tree, standing),
+        Node::Fix(which, goal) => fix_fault(problem, form, tree, standing, *which, *goal),
     }
 }

@@ -71,7 +71,12 @@ fn gain_of_stimulus(
 }
 
 /// What the stimuli add.
-fn gains(problem: &Problem, standing: &Standing, sides: &[u32; 386], excesses: &[i64; 64]) -> i64
+pub fn gains(
+    problem: &Problem,
+    standing: &Standing,
+    sides: &[u32; 386],
+    excesses: &[i64; 64],
+) -> i64
     requires well_made { IsWellMade (problem_of problem.now) }
     requires standing { IsStanding (problem_of problem.now) standing.now }
     requires sides { AreMultipliers (slice_index sides.now) }

@@ -14,7 +14,7 @@ use crate::branch::below_stimulus;
 use crate::cut::{Cut, below_item, root_cut};
 use crate::shape::is_depth_first;
 use crate::standing::standing_on;
-use crate::unresolved::{is_spent_node, start_form};
+use crate::unresolved::{spent_onward, start_form};
 use bank_tables::ItemSet;
 use certificate_model::Node;
 use constraint_model::Problem;
@@ -36,9 +36,7 @@ fn spent_to(
 {
     let node = tree.nodes()[at as usize];
     let standing = standing_on(problem, cut);
-    if !is_spent_node(problem, start, &standing, &node) {
-        return None;
-    }
+    let onward = spent_onward(problem, start, tree, &standing, &node)?;
     match node {
         Node::BranchItem(item) => {
             let left = below_item(cut, item, true);
@@ -52,6 +50,7 @@ fn spent_to(
             let right = below_stimulus(problem, &standing, which, false);
             spent_to(problem, start, tree, next, &right)
         }
+        Node::Fix(_, _) => spent_to(problem, start, tree, at + 1, &onward),
         Node::Bound(_) | Node::Ray(_) | Node::Count(_) | Node::Whole | Node::Open => Some(at + 1),
     }
 }

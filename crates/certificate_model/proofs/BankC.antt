@@ -17,7 +17,7 @@ use Rattle.certificate_model.proofs.BankA.{one_bound}
 use Rattle.form_model.proofs.BankC.{item_c, bank_c, plan_c, problem_c}
 
 -- the items alone have 13, the passage has 11
-form_345 : Form problem_c (these (3 ∷ 4 ∷ 5 ∷ []))
+pub form_345 : Form problem_c (these (3 ∷ 4 ∷ 5 ∷ []))
 unfolding problem_c bank_c item_c plan_c
 form_345 = form_is problem_c (these (3 ∷ 4 ∷ 5 ∷ [])) (these_below 6 (3 ∷ 4 ∷ 5 ∷ []) refl) (λ i e. absurd (cc)) refl
 

@@ -3,7 +3,7 @@ use Rattle.std.proofs.Common.{ℕ, zero, suc, ◌+◌, ◌≤◌, inl, inr, List
 use Rattle.std.proofs.lemmas.Int.{ints}
 use Rattle.bank_tables.specs.Items.{Set}
 use Rattle.certificate_model.specs.declared.node.Node.{Node}
-use Rattle.certificate_model.specs.declared.node.Node.TheVariants.{BranchItem, BranchStimulus, Bound, Ray, Count, Whole, Open}
+use Rattle.certificate_model.specs.declared.node.Node.TheVariants.{BranchItem, BranchStimulus, Bound, Ray, Count, Whole, Open, Fix}
 use Rattle.certificate_model.specs.declared.verdict.Verdict.TheVariants.{Partial}
 use Rattle.form_model.specs.Forms.{Form, objective}
 use Rattle.certificate_model.specs.Paths.{Path}
@@ -27,13 +27,14 @@ module _ (P : Problem) (X Y : Set) (T : ProofTree) (better : objective P X ≤ o
   sound p (Count r) s = s
   sound p Whole s = settled p (only_candidate P p) s
   sound p Open s = s
+  sound p (Fix v goal) s = (s.0, s.1, omega (arith, s.2), s.3)
 
   pub same_partial : (at met : ℕ) (nodes : List Node) (paths : List Path) (k : ℕ) → GivesFrom P (Some X) T at met nodes paths (Partial k) → GivesFrom P (Some Y) T at met nodes paths (Partial k)
   same_partial at zero [] [] k g = absurd (cc)
   same_partial at (suc met) [] [] k g = g
   same_partial at met [] (p ∷ paths) k g = absurd g
   same_partial at met (node ∷ nodes) [] k g = absurd g
-  same_partial at met (node ∷ nodes) (p ∷ paths) k (inl s) = inl (sound p node s.0, same_partial (at + 1) (met + open_leaf node) nodes (below P p node ++ paths) k s.1)
+  same_partial at met (node ∷ nodes) (p ∷ paths) k (inl s) = inl (sound p node s.0, same_partial (at + 1) (met + open_leaf node) nodes (below P T p node ++ paths) k s.1)
   same_partial at met (node ∷ nodes) (p ∷ paths) k (inr bad) = absurd (let e = bad.2 in cc)
 
 -- nodes that are sound without a form are sound with one
@@ -52,13 +53,14 @@ module _ (P : Problem) (Y : Set) (T : ProofTree) where
   sound_alone p (Count r) s = s
   sound_alone p Whole s = settled_alone p (only_candidate P p) s
   sound_alone p Open s = s
+  sound_alone p (Fix v goal) s = absurd s.2
 
   partial_alone : (at met : ℕ) (nodes : List Node) (paths : List Path) (k : ℕ) → GivesFrom P None T at met nodes paths (Partial k) → GivesFrom P (Some Y) T at met nodes paths (Partial k)
   partial_alone at zero [] [] k g = absurd (cc)
   partial_alone at (suc met) [] [] k g = g
   partial_alone at met [] (p ∷ paths) k g = absurd g
   partial_alone at met (node ∷ nodes) [] k g = absurd g
-  partial_alone at met (node ∷ nodes) (p ∷ paths) k (inl s) = inl (sound_alone p node s.0, partial_alone (at + 1) (met + open_leaf node) nodes (below P p node ++ paths) k s.1)
+  partial_alone at met (node ∷ nodes) (p ∷ paths) k (inl s) = inl (sound_alone p node s.0, partial_alone (at + 1) (met + open_leaf node) nodes (below P T p node ++ paths) k s.1)
   partial_alone at met (node ∷ nodes) (p ∷ paths) k (inr bad) = absurd (let e = bad.2 in cc)
 
 -- so a better form leaves a Partial verdict as it is

@@ -79,21 +79,21 @@ module _ (P : Problem) (v : Multipliers) (ray : Bool) where
       positive : (s : ℕ) → (s == 0) ≡ false → 0 < s
       positive s e = omega (arith, eqb-false s 0 e)
 
-  item_is : (i : ℕ) → i < size P.bank → (unlinked P v ray).item i ≡ item_weight P M ray i
+  pub item_is : (i : ℕ) → i < size P.bank → (unlinked P v ray).item i ≡ item_weight P M ray i
   unfolding unlinked row_linear amount_linear constant_form items_linear low_stimulus high_stimulus item_weight stimulus_price
   item_is i w =
       let rows = total_z-same (length P.plan.rows) (λ r. pos 0 +ℤ item_share P M i r) (item_share P M i) (λ r w. omega (arith, ints)) in
       let own = own_price i w in
       omega (arith, ints)
 
-  stimulus_is : (s : ℕ) → (unlinked P v ray).stimulus s ≡ stimulus_weight P M s
+  pub stimulus_is : (s : ℕ) → (unlinked P v ray).stimulus s ≡ stimulus_weight P M s
   unfolding unlinked row_linear amount_linear constant_form items_linear own_weight low_stimulus high_stimulus stimulus_weight
   stimulus_is s =
       let rows = total_z-same (length P.plan.rows) (λ r. pos 0 +ℤ stimulus_share P M r) (stimulus_share P M) (λ r w. omega (arith, ints)) in
       let none = total_none (stimuli_of P.bank) (λ k. price M (stimulus_side P (suc k)) *ℤ pos 0) (λ k w. times_zero (price M (stimulus_side P (suc k)))) in
       omega (arith, ints)
 
-  constant_is : (unlinked P v ray).constant ≡ rows_constant P M
+  pub constant_is : (unlinked P v ray).constant ≡ rows_constant P M
   unfolding unlinked row_linear amount_linear constant_form items_linear low_stimulus high_stimulus rows_constant
   constant_is =
       let rows =
@@ -103,7 +103,7 @@ module _ (P : Problem) (v : Multipliers) (ray : Bool) where
       omega (arith, ints)
 
 -- ---- the closed form
-sum_in_z-same : (n : ℕ) (X : Set) (f g : ℕ → ℤ) → ((i : ℕ) → i < n → X i ≡ true → f i ≡ g i) → sum_in_z n X f ≡ sum_in_z n X g
+pub sum_in_z-same : (n : ℕ) (X : Set) (f g : ℕ → ℤ) → ((i : ℕ) → i < n → X i ≡ true → f i ≡ g i) → sum_in_z n X f ≡ sum_in_z n X g
 sum_in_z-same zero X f g h = refl
 sum_in_z-same (suc n) X f g h =
     let rest = sum_in_z-same n X f g (λ i w. h i (omega arith)) in

@@ -74,7 +74,7 @@ slack_zero z = omega (arith, ints)
 
 module _ (P : Problem) (X : Set) (meets : Meets P.bank P.plan X) where
   -- the sides of a row are not negative
-  row_nonneg : (v : Multipliers) (r : ℕ) → r < length P.plan.rows → pos 0 ≤ℤ weighted_slacks P v X (used P.bank X) r
+  pub row_nonneg : (v : Multipliers) (r : ℕ) → r < length P.plan.rows → pos 0 ≤ℤ weighted_slacks P v X (used P.bank X) r
   row_nonneg v r within =
       nonneg_add _ _ (nonneg_mul (multiplier v (2 * r)) _ (nonneg_sub _ _ (meets.rows r within).low)) (nonneg_mul (multiplier v (2 * r + 1)) _ (nonneg_sub _ _ (meets.rows r within).high))
 
@@ -95,13 +95,13 @@ module _ (P : Problem) (X : Set) (meets : Meets P.bank P.plan X) where
       ]
 
   -- nor are those of a stimulus
-  stimulus_nonneg : (v : Multipliers) (s : ℕ) → 0 < s → s ≤ stimuli_of P.bank → pos 0 ≤ℤ weighted_stimulus_slacks P v X (used P.bank X) s
+  pub stimulus_nonneg : (v : Multipliers) (s : ℕ) → 0 < s → s ≤ stimuli_of P.bank → pos 0 ≤ℤ weighted_stimulus_slacks P v X (used P.bank X) s
   stimulus_nonneg v s first last =
       let low_side = 2 * length P.plan.rows + 2 * (s - 1) in
       nonneg_add _ _ (nonneg_mul (multiplier v low_side) _ (nonneg_sub _ _ (low_held s first last))) (nonneg_mul (multiplier v (low_side + 1)) _ (nonneg_sub _ _ (high_held s first last)))
 
   -- nor are those of a link: in a form an item is chosen only where its stimulus is
-  own_stimulus_used : (i : ℕ) → X i ≡ true → (stimulus P.bank i == 0) ≡ false → used P.bank X (stimulus P.bank i) ≡ true
+  pub own_stimulus_used : (i : ℕ) → X i ≡ true → (stimulus P.bank i == 0) ≡ false → used P.bank X (stimulus P.bank i) ≡ true
   own_stimulus_used i has some =
       let within = meets.right_length.in_bank i has in
       and_from _ _ (lt-ltb 0 (stimulus P.bank i) (omega (arith, eqb-false (stimulus P.bank i) 0 some)))

@@ -15,12 +15,12 @@ use Rattle.form_model.proofs.SumLaws.{either, or_true, or_left}
 use Rattle.certificate_model.proofs.Reduced.{reduced, lagrangian-reduced, total_z-cond, total_z-same}
 
 -- ---- sums compared term by term
-sum_in_z-le : (n : ℕ) (X Y : Set) (f g : ℕ → ℤ) → ((i : ℕ) → i < n → cond (X i) (f i) (pos 0) ≤ℤ cond (Y i) (g i) (pos 0)) → sum_in_z n X f ≤ℤ sum_in_z n Y g
+pub sum_in_z-le : (n : ℕ) (X Y : Set) (f g : ℕ → ℤ) → ((i : ℕ) → i < n → cond (X i) (f i) (pos 0) ≤ℤ cond (Y i) (g i) (pos 0)) → sum_in_z n X f ≤ℤ sum_in_z n Y g
 sum_in_z-le zero X Y f g h = omega (arith, ints)
 sum_in_z-le (suc n) X Y f g h = let rest = sum_in_z-le n X Y f g (λ i w. h i (omega arith)) in let last = h n (omega arith) in omega (arith, ints)
 
 -- a sum less t for each of its terms
-sum_in_z-shift : (n : ℕ) (X : Set) (f : ℕ → ℤ) (t : ℤ) → sum_in_z n X f ≡ sum_in_z n X (λ i. f i -ℤ t) +ℤ (pos (count_in n X (λ _. true)) *ℤ t)
+pub sum_in_z-shift : (n : ℕ) (X : Set) (f : ℕ → ℤ) (t : ℤ) → sum_in_z n X f ≡ sum_in_z n X (λ i. f i -ℤ t) +ℤ (pos (count_in n X (λ _. true)) *ℤ t)
 sum_in_z-shift zero X f t = omega (arith, ints)
 sum_in_z-shift (suc n) X f t =
     let rest = sum_in_z-shift n X f t in
@@ -57,7 +57,7 @@ greatest_of_size n F T X f t above others within same =
         ]
 
 -- a set and the rest of a larger one
-sum_in_z-split : (n : ℕ) (X A B : Set) (f : ℕ → ℤ) → ((i : ℕ) → i < n → (X i ≡ (A i || B i)) × ((A i && B i) ≡ false)) → sum_in_z n X f ≡ sum_in_z n A f +ℤ sum_in_z n B f
+pub sum_in_z-split : (n : ℕ) (X A B : Set) (f : ℕ → ℤ) → ((i : ℕ) → i < n → (X i ≡ (A i || B i)) × ((A i && B i) ≡ false)) → sum_in_z n X f ≡ sum_in_z n A f +ℤ sum_in_z n B f
 sum_in_z-split zero X A B f h = omega (arith, ints)
 sum_in_z-split (suc n) X A B f h =
     let rest = sum_in_z-split n X A B f (λ i w. h i (omega arith)) in

@@ -1,4 +1,6 @@
 pub mod Duality
+pub mod FixLaws
+pub mod FixRows
 pub mod CountingLaws
 pub mod TreeLaws
 pub mod Reduced

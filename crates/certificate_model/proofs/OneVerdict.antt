@@ -3,9 +3,9 @@ use Rattle.std.proofs.Common.{◌≡◌, ℕ, ◌+◌, inl, inr, List, [], ◌�
 use Rattle.std.proofs.Math.Bool.{true≢false}
 use Rattle.bank_tables.specs.Items.{Set}
 use Rattle.certificate_model.specs.declared.node.Node.{Node}
-use Rattle.certificate_model.specs.declared.node.Node.TheVariants.{BranchItem, BranchStimulus, Bound, Ray, Count, Whole, Open}
+use Rattle.certificate_model.specs.declared.node.Node.TheVariants.{BranchItem, BranchStimulus, Bound, Ray, Count, Whole, Open, Fix}
 use Rattle.certificate_model.specs.declared.verdict.Reason.{Reason}
-use Rattle.certificate_model.specs.declared.verdict.Reason.TheVariants.{NotForm, Determined, NoVector, NoSide, NotClosed, NotNegative, RowPossible, NotWhole, Better, OpenWhole}
+use Rattle.certificate_model.specs.declared.verdict.Reason.TheVariants.{NotForm, Determined, NoVector, NoSide, NotClosed, NotNegative, RowPossible, NotWhole, Better, OpenWhole, FixesNothing}
 use Rattle.certificate_model.specs.declared.verdict.Verdict.{Verdict}
 use Rattle.certificate_model.specs.declared.verdict.Verdict.TheVariants.{Bad}
 use Rattle.certificate_model.specs.Paths.{Path, root}
@@ -28,6 +28,7 @@ module _ (P : Problem) (X : Option Set) (T : ProofTree) (p : Path) where
   not_both (BranchItem i) RowPossible s u = u
   not_both (BranchItem i) NotWhole s u = u
   not_both (BranchItem i) Better s u = u
+  not_both (BranchItem i) FixesNothing s u = u
   not_both (BranchItem i) OpenWhole s u = u
   not_both (BranchStimulus t) NotForm s u = u
   not_both (BranchStimulus t) Determined s u = u s
@@ -38,6 +39,7 @@ module _ (P : Problem) (X : Option Set) (T : ProofTree) (p : Path) where
   not_both (BranchStimulus t) RowPossible s u = u
   not_both (BranchStimulus t) NotWhole s u = u
   not_both (BranchStimulus t) Better s u = u
+  not_both (BranchStimulus t) FixesNothing s u = u
   not_both (BranchStimulus t) OpenWhole s u = u
   not_both (Bound v) NotForm s u = u
   not_both (Bound v) Determined s u = u
@@ -48,6 +50,7 @@ module _ (P : Problem) (X : Option Set) (T : ProofTree) (p : Path) where
   not_both (Bound v) RowPossible s u = u
   not_both (Bound v) NotWhole s u = u
   not_both (Bound v) Better s u = u
+  not_both (Bound v) FixesNothing s u = u
   not_both (Bound v) OpenWhole s u = u
   not_both (Ray v) NotForm s u = u
   not_both (Ray v) Determined s u = u
@@ -58,6 +61,7 @@ module _ (P : Problem) (X : Option Set) (T : ProofTree) (p : Path) where
   not_both (Ray v) RowPossible s u = u
   not_both (Ray v) NotWhole s u = u
   not_both (Ray v) Better s u = u
+  not_both (Ray v) FixesNothing s u = u
   not_both (Ray v) OpenWhole s u = u
   not_both (Count r) NotForm s u = u
   not_both (Count r) Determined s u = u
@@ -68,6 +72,7 @@ module _ (P : Problem) (X : Option Set) (T : ProofTree) (p : Path) where
   not_both (Count r) RowPossible s u = true≢false (sym s ∙ u)
   not_both (Count r) NotWhole s u = u
   not_both (Count r) Better s u = u
+  not_both (Count r) FixesNothing s u = u
   not_both (Count r) OpenWhole s u = u
   not_both Whole NotForm s u = u
   not_both Whole Determined s u = u
@@ -78,6 +83,7 @@ module _ (P : Problem) (X : Option Set) (T : ProofTree) (p : Path) where
   not_both Whole RowPossible s u = u
   not_both Whole NotWhole s u = not_settled P X p (only_candidate P p) u s
   not_both Whole Better s u = u.1 s
+  not_both Whole FixesNothing s u = u
   not_both Whole OpenWhole s u = u
   not_both Open NotForm s u = u
   not_both Open Determined s u = u
@@ -88,10 +94,24 @@ module _ (P : Problem) (X : Option Set) (T : ProofTree) (p : Path) where
   not_both Open RowPossible s u = u
   not_both Open NotWhole s u = u
   not_both Open Better s u = u
+  not_both Open FixesNothing s u = u
   not_both Open OpenWhole s u = u s
+  not_both (Fix v goal) NotForm s u = u
+  not_both (Fix v goal) Determined s u = u
+  not_both (Fix v goal) NoVector s u = omega (arith, s.0)
+  not_both (Fix v goal) NoSide s u = u.1 s.1
+  not_both (Fix v goal) NotClosed s u = u.2 s.2
+  not_both (Fix v goal) NotNegative s u = u
+  not_both (Fix v goal) RowPossible s u = u
+  not_both (Fix v goal) NotWhole s u = u
+  not_both (Fix v goal) Better s u = u
+  not_both (Fix v goal) OpenWhole s u = u
+  not_both (Fix v goal) FixesNothing s u = true≢false (sym s.3 ∙ u.3)
 
   one_reason : (node : Node) (a b : Reason) → IsUnsound P X T p node a → IsUnsound P X T p node b → a ≡ b
+  one_reason (BranchItem i) FixesNothing b h u = absurd h
   one_reason (BranchItem i) NotForm b h u = absurd h
+  one_reason (BranchItem i) Determined FixesNothing h u = absurd u
   one_reason (BranchItem i) Determined NotForm h u = absurd u
   one_reason (BranchItem i) Determined Determined h u = refl
   one_reason (BranchItem i) Determined NoVector h u = absurd u
@@ -110,7 +130,9 @@ module _ (P : Problem) (X : Option Set) (T : ProofTree) (p : Path) where
   one_reason (BranchItem i) NotWhole b h u = absurd h
   one_reason (BranchItem i) Better b h u = absurd h
   one_reason (BranchItem i) OpenWhole b h u = absurd h
+  one_reason (BranchStimulus t) FixesNothing b h u = absurd h
   one_reason (BranchStimulus t) NotForm b h u = absurd h
+  one_reason (BranchStimulus t) Determined FixesNothing h u = absurd u
   one_reason (BranchStimulus t) Determined NotForm h u = absurd u
   one_reason (BranchStimulus t) Determined Determined h u = refl
   one_reason (BranchStimulus t) Determined NoVector h u = absurd u
@@ -129,8 +151,10 @@ module _ (P : Problem) (X : Option Set) (T : ProofTree) (p : Path) where
   one_reason (BranchStimulus t) NotWhole b h u = absurd h
   one_reason (BranchStimulus t) Better b h u = absurd h
   one_reason (BranchStimulus t) OpenWhole b h u = absurd h
+  one_reason (Bound v) FixesNothing b h u = absurd h
   one_reason (Bound v) NotForm b h u = absurd h
   one_reason (Bound v) Determined b h u = absurd h
+  one_reason (Bound v) NoVector FixesNothing h u = absurd u
   one_reason (Bound v) NoVector NotForm h u = absurd u
   one_reason (Bound v) NoVector Determined h u = absurd u
   one_reason (Bound v) NoVector NoVector h u = refl
@@ -141,6 +165,7 @@ module _ (P : Problem) (X : Option Set) (T : ProofTree) (p : Path) where
   one_reason (Bound v) NoVector NotWhole h u = absurd u
   one_reason (Bound v) NoVector Better h u = absurd u
   one_reason (Bound v) NoVector OpenWhole h u = absurd u
+  one_reason (Bound v) NoSide FixesNothing h u = absurd u
   one_reason (Bound v) NoSide NotForm h u = absurd u
   one_reason (Bound v) NoSide Determined h u = absurd u
   one_reason (Bound v) NoSide NoVector h u = absurd (omega (arith, h.0))
@@ -151,6 +176,7 @@ module _ (P : Problem) (X : Option Set) (T : ProofTree) (p : Path) where
   one_reason (Bound v) NoSide NotWhole h u = absurd u
   one_reason (Bound v) NoSide Better h u = absurd u
   one_reason (Bound v) NoSide OpenWhole h u = absurd u
+  one_reason (Bound v) NotClosed FixesNothing h u = absurd u
   one_reason (Bound v) NotClosed NotForm h u = absurd u
   one_reason (Bound v) NotClosed Determined h u = absurd u
   one_reason (Bound v) NotClosed NoVector h u = absurd (omega (arith, h.0))
@@ -166,8 +192,10 @@ module _ (P : Problem) (X : Option Set) (T : ProofTree) (p : Path) where
   one_reason (Bound v) NotWhole b h u = absurd h
   one_reason (Bound v) Better b h u = absurd h
   one_reason (Bound v) OpenWhole b h u = absurd h
+  one_reason (Ray v) FixesNothing b h u = absurd h
   one_reason (Ray v) NotForm b h u = absurd h
   one_reason (Ray v) Determined b h u = absurd h
+  one_reason (Ray v) NoVector FixesNothing h u = absurd u
   one_reason (Ray v) NoVector NotForm h u = absurd u
   one_reason (Ray v) NoVector Determined h u = absurd u
   one_reason (Ray v) NoVector NoVector h u = refl
@@ -178,6 +206,7 @@ module _ (P : Problem) (X : Option Set) (T : ProofTree) (p : Path) where
   one_reason (Ray v) NoVector NotWhole h u = absurd u
   one_reason (Ray v) NoVector Better h u = absurd u
   one_reason (Ray v) NoVector OpenWhole h u = absurd u
+  one_reason (Ray v) NoSide FixesNothing h u = absurd u
   one_reason (Ray v) NoSide NotForm h u = absurd u
   one_reason (Ray v) NoSide Determined h u = absurd u
   one_reason (Ray v) NoSide NoVector h u = absurd (omega (arith, h.0))
@@ -189,6 +218,7 @@ module _ (P : Problem) (X : Option Set) (T : ProofTree) (p : Path) where
   one_reason (Ray v) NoSide Better h u = absurd u
   one_reason (Ray v) NoSide OpenWhole h u = absurd u
   one_reason (Ray v) NotClosed b h u = absurd h
+  one_reason (Ray v) NotNegative FixesNothing h u = absurd u
   one_reason (Ray v) NotNegative NotForm h u = absurd u
   one_reason (Ray v) NotNegative Determined h u = absurd u
   one_reason (Ray v) NotNegative NoVector h u = absurd (omega (arith, h.0))
@@ -203,12 +233,14 @@ module _ (P : Problem) (X : Option Set) (T : ProofTree) (p : Path) where
   one_reason (Ray v) NotWhole b h u = absurd h
   one_reason (Ray v) Better b h u = absurd h
   one_reason (Ray v) OpenWhole b h u = absurd h
+  one_reason (Count r) FixesNothing b h u = absurd h
   one_reason (Count r) NotForm b h u = absurd h
   one_reason (Count r) Determined b h u = absurd h
   one_reason (Count r) NoVector b h u = absurd h
   one_reason (Count r) NoSide b h u = absurd h
   one_reason (Count r) NotClosed b h u = absurd h
   one_reason (Count r) NotNegative b h u = absurd h
+  one_reason (Count r) RowPossible FixesNothing h u = absurd u
   one_reason (Count r) RowPossible NotForm h u = absurd u
   one_reason (Count r) RowPossible Determined h u = absurd u
   one_reason (Count r) RowPossible NoVector h u = absurd u
@@ -222,6 +254,7 @@ module _ (P : Problem) (X : Option Set) (T : ProofTree) (p : Path) where
   one_reason (Count r) NotWhole b h u = absurd h
   one_reason (Count r) Better b h u = absurd h
   one_reason (Count r) OpenWhole b h u = absurd h
+  one_reason Whole FixesNothing b h u = absurd h
   one_reason Whole NotForm b h u = absurd h
   one_reason Whole Determined b h u = absurd h
   one_reason Whole NoVector b h u = absurd h
@@ -229,6 +262,7 @@ module _ (P : Problem) (X : Option Set) (T : ProofTree) (p : Path) where
   one_reason Whole NotClosed b h u = absurd h
   one_reason Whole NotNegative b h u = absurd h
   one_reason Whole RowPossible b h u = absurd h
+  one_reason Whole NotWhole FixesNothing h u = absurd u
   one_reason Whole NotWhole NotForm h u = absurd u
   one_reason Whole NotWhole Determined h u = absurd u
   one_reason Whole NotWhole NoVector h u = absurd u
@@ -239,6 +273,7 @@ module _ (P : Problem) (X : Option Set) (T : ProofTree) (p : Path) where
   one_reason Whole NotWhole NotWhole h u = refl
   one_reason Whole NotWhole Better h u = absurd (u.0 h)
   one_reason Whole NotWhole OpenWhole h u = absurd u
+  one_reason Whole Better FixesNothing h u = absurd u
   one_reason Whole Better NotForm h u = absurd u
   one_reason Whole Better Determined h u = absurd u
   one_reason Whole Better NoVector h u = absurd u
@@ -250,6 +285,7 @@ module _ (P : Problem) (X : Option Set) (T : ProofTree) (p : Path) where
   one_reason Whole Better Better h u = refl
   one_reason Whole Better OpenWhole h u = absurd u
   one_reason Whole OpenWhole b h u = absurd h
+  one_reason Open FixesNothing b h u = absurd h
   one_reason Open NotForm b h u = absurd h
   one_reason Open Determined b h u = absurd h
   one_reason Open NoVector b h u = absurd h
@@ -259,6 +295,7 @@ module _ (P : Problem) (X : Option Set) (T : ProofTree) (p : Path) where
   one_reason Open RowPossible b h u = absurd h
   one_reason Open NotWhole b h u = absurd h
   one_reason Open Better b h u = absurd h
+  one_reason Open OpenWhole FixesNothing h u = absurd u
   one_reason Open OpenWhole NotForm h u = absurd u
   one_reason Open OpenWhole Determined h u = absurd u
   one_reason Open OpenWhole NoVector h u = absurd u
@@ -269,12 +306,63 @@ module _ (P : Problem) (X : Option Set) (T : ProofTree) (p : Path) where
   one_reason Open OpenWhole NotWhole h u = absurd u
   one_reason Open OpenWhole Better h u = absurd u
   one_reason Open OpenWhole OpenWhole h u = refl
+  one_reason (Fix v goal) NotForm b h u = absurd h
+  one_reason (Fix v goal) Determined b h u = absurd h
+  one_reason (Fix v goal) NoVector NotForm h u = absurd u
+  one_reason (Fix v goal) NoVector Determined h u = absurd u
+  one_reason (Fix v goal) NoVector NoVector h u = refl
+  one_reason (Fix v goal) NoVector NoSide h u = absurd (omega (arith, u.0))
+  one_reason (Fix v goal) NoVector NotClosed h u = absurd (omega (arith, u.0))
+  one_reason (Fix v goal) NoVector NotNegative h u = absurd u
+  one_reason (Fix v goal) NoVector RowPossible h u = absurd u
+  one_reason (Fix v goal) NoVector NotWhole h u = absurd u
+  one_reason (Fix v goal) NoVector Better h u = absurd u
+  one_reason (Fix v goal) NoVector OpenWhole h u = absurd u
+  one_reason (Fix v goal) NoVector FixesNothing h u = absurd (omega (arith, u.0))
+  one_reason (Fix v goal) NoSide NotForm h u = absurd u
+  one_reason (Fix v goal) NoSide Determined h u = absurd u
+  one_reason (Fix v goal) NoSide NoVector h u = absurd (omega (arith, h.0))
+  one_reason (Fix v goal) NoSide NoSide h u = refl
+  one_reason (Fix v goal) NoSide NotClosed h u = absurd (h.1 u.1)
+  one_reason (Fix v goal) NoSide NotNegative h u = absurd u
+  one_reason (Fix v goal) NoSide RowPossible h u = absurd u
+  one_reason (Fix v goal) NoSide NotWhole h u = absurd u
+  one_reason (Fix v goal) NoSide Better h u = absurd u
+  one_reason (Fix v goal) NoSide OpenWhole h u = absurd u
+  one_reason (Fix v goal) NoSide FixesNothing h u = absurd (h.1 u.1)
+  one_reason (Fix v goal) NotClosed NotForm h u = absurd u
+  one_reason (Fix v goal) NotClosed Determined h u = absurd u
+  one_reason (Fix v goal) NotClosed NoVector h u = absurd (omega (arith, h.0))
+  one_reason (Fix v goal) NotClosed NoSide h u = absurd (u.1 h.1)
+  one_reason (Fix v goal) NotClosed NotClosed h u = refl
+  one_reason (Fix v goal) NotClosed NotNegative h u = absurd u
+  one_reason (Fix v goal) NotClosed RowPossible h u = absurd u
+  one_reason (Fix v goal) NotClosed NotWhole h u = absurd u
+  one_reason (Fix v goal) NotClosed Better h u = absurd u
+  one_reason (Fix v goal) NotClosed OpenWhole h u = absurd u
+  one_reason (Fix v goal) NotClosed FixesNothing h u = absurd (h.2 u.2)
+  one_reason (Fix v goal) NotNegative b h u = absurd h
+  one_reason (Fix v goal) RowPossible b h u = absurd h
+  one_reason (Fix v goal) NotWhole b h u = absurd h
+  one_reason (Fix v goal) Better b h u = absurd h
+  one_reason (Fix v goal) OpenWhole b h u = absurd h
+  one_reason (Fix v goal) FixesNothing NotForm h u = absurd u
+  one_reason (Fix v goal) FixesNothing Determined h u = absurd u
+  one_reason (Fix v goal) FixesNothing NoVector h u = absurd (omega (arith, h.0))
+  one_reason (Fix v goal) FixesNothing NoSide h u = absurd (u.1 h.1)
+  one_reason (Fix v goal) FixesNothing NotClosed h u = absurd (u.2 h.2)
+  one_reason (Fix v goal) FixesNothing NotNegative h u = absurd u
+  one_reason (Fix v goal) FixesNothing RowPossible h u = absurd u
+  one_reason (Fix v goal) FixesNothing NotWhole h u = absurd u
+  one_reason (Fix v goal) FixesNothing Better h u = absurd u
+  one_reason (Fix v goal) FixesNothing OpenWhole h u = absurd u
+  one_reason (Fix v goal) FixesNothing FixesNothing h u = refl
 
 one_gives : (P : Problem) (X : Option Set) (T : ProofTree) (at met : ℕ) (nodes : List Node) (paths : List Path) (v w : Verdict) → GivesFrom P X T at met nodes paths v → GivesFrom P X T at met nodes paths w → v ≡ w
 one_gives P X T at met [] [] v w g h = g ∙ sym h
 one_gives P X T at met [] (p ∷ paths) v w g h = absurd g
 one_gives P X T at met (node ∷ nodes) [] v w g h = absurd g
-one_gives P X T at met (node ∷ nodes) (p ∷ paths) v w (inl g) (inl h) = one_gives P X T (at + 1) (met + open_leaf node) nodes (below P p node ++ paths) v w g.1 h.1
+one_gives P X T at met (node ∷ nodes) (p ∷ paths) v w (inl g) (inl h) = one_gives P X T (at + 1) (met + open_leaf node) nodes (below P T p node ++ paths) v w g.1 h.1
 one_gives P X T at met (node ∷ nodes) (p ∷ paths) v w (inl g) (inr h) = absurd (not_both P X T p node h.0 g.0 h.1)
 one_gives P X T at met (node ∷ nodes) (p ∷ paths) v w (inr g) (inl h) = absurd (not_both P X T p node g.0 h.0 g.1)
 one_gives P X T at met (node ∷ nodes) (p ∷ paths) v w (inr g) (inr h) = g.2 ∙ ap (λ (r : Reason). Bad at r) (one_reason P X T p node g.0 h.0 g.1 h.1) ∙ sym h.2

@@ -30,7 +30,7 @@ mul_zero : (m : ℤ) → m *ℤ pos 0 ≡ pos 0
 mul_zero m = omega (arith, ints)
 
 -- ---- sums of signed numbers
-total_z-add : (n : ℕ) (f g : ℕ → ℤ) → total_z n (λ i. f i +ℤ g i) ≡ total_z n f +ℤ total_z n g
+pub total_z-add : (n : ℕ) (f g : ℕ → ℤ) → total_z n (λ i. f i +ℤ g i) ≡ total_z n f +ℤ total_z n g
 total_z-add zero f g = omega (arith, ints)
 total_z-add (suc n) f g = omega (arith, ints, total_z-add n f g)
 
@@ -209,7 +209,7 @@ unlinked P v ray =
     plus (record { constant = pos 0; item = λ i. pos (weight P ray i); stimulus = own_weight P v })
     (plus (sum_of (length P.plan.rows) (row_linear P v)) (sum_of (stimuli_of P.bank) (λ k. items_linear P v (suc k))))
 
-lagrangian-unlinked : (P : Problem) (v : Multipliers) (ray : Bool) (X Z : Set) → lagrangian_without_links P v ray X Z ≡ at (size P.bank) (stimuli_of P.bank) (unlinked P v ray) X Z
+pub lagrangian-unlinked : (P : Problem) (v : Multipliers) (ray : Bool) (X Z : Set) → lagrangian_without_links P v ray X Z ≡ at (size P.bank) (stimuli_of P.bank) (unlinked P v ray) X Z
 unfolding lagrangian_without_links unlinked
 lagrangian-unlinked P v ray X Z =
     let n = size P.bank in
@@ -261,7 +261,7 @@ one_of (suc top) x Z m w none =
     last_or i n w = grind arith
 
 -- a sum over the stimuli of Z and the items of each is a sum over the items whose stimulus is in Z
-by_stimulus : (n top : ℕ) (stimulus : ℕ → ℕ) (Z : Set) (m : ℕ → ℤ) → ((i : ℕ) → i < n → stimulus i ≤ top) → ((i : ℕ) → stimulus i ≡ 0 → m i ≡ pos 0)
+pub by_stimulus : (n top : ℕ) (stimulus : ℕ → ℕ) (Z : Set) (m : ℕ → ℤ) → ((i : ℕ) → i < n → stimulus i ≤ top) → ((i : ℕ) → stimulus i ≡ 0 → m i ≡ pos 0)
     → sum_in_z top (λ k. Z (suc k)) (λ k. sum_in_z n (λ i. stimulus i == suc k) m) ≡ total_z n (λ i. cond (Z (stimulus i)) (m i) (pos 0))
 by_stimulus zero top stimulus Z m low none = sum_in_z-zero top (λ k. Z (suc k))
 by_stimulus (suc n) top stimulus Z m low none =

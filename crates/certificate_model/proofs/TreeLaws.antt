@@ -7,21 +7,23 @@ use Rattle.std.proofs.Math.Path.{fun_ext}
 use Rattle.bank_tables.specs.Items.{Set}
 use Rattle.bank_tables.specs.Tables.{size, stimulus}
 use Rattle.certificate_model.specs.declared.node.Node.{Node}
-use Rattle.certificate_model.specs.declared.node.Node.TheVariants.{BranchItem, BranchStimulus, Bound, Ray, Count, Whole, Open}
+use Rattle.certificate_model.specs.declared.node.Node.TheVariants.{BranchItem, BranchStimulus, Bound, Ray, Count, Whole, Open, Fix}
 use Rattle.certificate_model.specs.declared.verdict.Verdict.{Verdict}
 use Rattle.certificate_model.specs.declared.verdict.Verdict.TheVariants.{Optimal, NoForm, Bad}
 use Rattle.certificate_model.specs.declared.verdict.Reason.{Reason}
 use Rattle.bank_tables.specs.Sums.{any_below}
 use Rattle.certificate_model.specs.Counting.{taken_or_free}
-use Rattle.form_model.specs.Forms.{Form, used, size_in}
+use Rattle.form_model.specs.Forms.{Form, used, size_in, objective}
 use Rattle.certificate_model.specs.Laws.{OptimalIsBest, NoFormIsNone}
 use Rattle.certificate_model.specs.Paths.{Path, root, Under, is_free, with_item, with_stimulus}
 use Rattle.form_model.specs.Problem.{Problem}
 use Rattle.certificate_model.specs.ProofTrees.{ProofTree, vector_at}
 use Rattle.certificate_model.specs.Relaxed.{Multipliers}
-use Rattle.certificate_model.specs.Verdicts.{only_candidate, MaximumIsAtMost, IsAtLeast, CandidateIsSettled, ClosesByBound, IsSound, below, open_leaf, verdict_of, GivesFrom}
+use Rattle.certificate_model.specs.Fixing.{fixed_path, is_taken_in, settles}
+use Rattle.certificate_model.specs.Verdicts.{ReachesGoal, only_candidate, MaximumIsAtMost, IsAtLeast, CandidateIsSettled, ClosesByBound, IsSound, below, open_leaf, verdict_of, GivesFrom}
 use Rattle.form_model.proofs.SumLaws.{either, or_true, or_left, any_intro, any_elim, same_from_count}
 use Rattle.certificate_model.proofs.Duality.{held_is_taken_or_free, weak_duality, weak_ray}
+use Rattle.certificate_model.proofs.FixLaws.{fix_keeps}
 use Rattle.certificate_model.proofs.CountingLaws.{in_may_hold, impossible_leaves_no_form}
 
 -- the items taken are of the bank
@@ -170,6 +172,14 @@ module _ (P : Problem) (X : Option Set) (T : ProofTree) (p : Path) where
       let top = holds.below in
       absurd (omega (arith, ints))
 
+  fix_closed : (best : Option Set) (v : Multipliers) (goal : ℕ) → ReachesGoal P best goal → settles P p v goal ≡ true → Closed P best (fixed_path P p v goal) → Closed P best p
+  fix_closed None v goal reached some below in_bank Y under = absurd reached
+  fix_closed (Some best) v goal reached some below in_bank Y under =
+      elim (either (nat_lt goal (objective P Y))) [
+        | inl better ↦ below (λ i e. elim (or_true (is_taken_in P p v goal i) (p.taken i) e) [ inl fixed ↦ ltb-true _ _ (and_parts (nat_lt i (size P.bank)) _ (and_parts (is_free P p i) _ fixed).0).0 | inr old ↦ in_bank i old ]) Y (fix_keeps P p v goal Y under (ltb-true _ _ better))
+        | inr no_better ↦ let low = ltb-false _ _ no_better in omega arith
+      ]
+
   item_closed : (i : ℕ) → is_free P p i ≡ true → Closed P X (with_item p i true) → Closed P X (with_item p i false) → Closed P X p
   item_closed i free left right in_bank Y under =
       elim (either (Y i)) [
@@ -193,7 +203,7 @@ none_met P (Some X) T at (suc met) [] [] verdict some e gives = cc
 none_met P X T at met (node ∷ nodes) [] verdict some e gives = gives
 none_met P X T at met (node ∷ nodes) (p ∷ paths) verdict some e gives =
     elim gives [
-      | inl sound ↦ none_met P X T (at + 1) (met + open_leaf node) nodes (below P p node ++ paths) verdict (omega arith) e sound.1
+      | inl sound ↦ none_met P X T (at + 1) (met + open_leaf node) nodes (below P T p node ++ paths) verdict (omega arith) e sound.1
       | inr bad ↦ not_bad X at bad.0 (sym e ∙ bad.2)
     ]
   where
@@ -208,7 +218,7 @@ all_closed P X T at met [] (p ∷ paths) verdict e gives = absurd gives
 all_closed P X T at met (node ∷ nodes) [] verdict e gives = absurd gives
 all_closed P X T at met (node ∷ nodes) (p ∷ paths) verdict e gives =
     elim gives [
-      | inl sound ↦ closes node sound.0 (λ some. none_met P X T (at + 1) (met + open_leaf node) nodes (below P p node ++ paths) verdict some e sound.1) (all_closed P X T (at + 1) (met + open_leaf node) nodes (below P p node ++ paths) verdict e sound.1)
+      | inl sound ↦ closes node sound.0 (λ some. none_met P X T (at + 1) (met + open_leaf node) nodes (below P T p node ++ paths) verdict some e sound.1) (all_closed P X T (at + 1) (met + open_leaf node) nodes (below P T p node ++ paths) verdict e sound.1)
       | inr bad ↦ absurd (not_bad X at bad.0 (sym e ∙ bad.2))
     ]
   where
@@ -216,7 +226,7 @@ all_closed P X T at met (node ∷ nodes) (p ∷ paths) verdict e gives =
     not_bad None at reason e = cc
     not_bad (Some X) at reason e = cc
 
-    closes : (node : Node) → IsSound P X T p node → (0 < met + open_leaf node → ⊥) → AllClosed P X (below P p node ++ paths) → AllClosed P X (p ∷ paths)
+    closes : (node : Node) → IsSound P X T p node → (0 < met + open_leaf node → ⊥) → AllClosed P X (below P T p node ++ paths) → AllClosed P X (p ∷ paths)
     closes (BranchItem i) sound none rest = (item_closed P X T p i sound rest.0 rest.1.0, rest.1.1)
     closes (BranchStimulus s) sound none rest = (stimulus_closed P X T p s sound.first rest.0 rest.1.0, rest.1.1)
     closes (Bound v) sound none rest = (bound_closed P X T p X (vector_at T v) sound.2, rest)
@@ -224,6 +234,7 @@ all_closed P X T at met (node ∷ nodes) (p ∷ paths) verdict e gives =
     closes (Count r) sound none rest = (λ in_bank Y under. absurd (impossible_leaves_no_form P p Y under r sound), rest)
     closes Whole sound none rest = (λ in_bank Y under. settled_closed P p Y under in_bank X sound, rest)
     closes Open sound none rest = absurd (none (omega arith))
+    closes (Fix v goal) sound none rest = (fix_closed P X T p X (vector_at T v) goal sound.2 sound.3 rest.0, rest.1)
 
 -- at the root every form is on the path
 pub at_root : (P : Problem) (Y : Set) → Form P Y → Under P (root P) Y

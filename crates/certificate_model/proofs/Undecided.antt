@@ -9,12 +9,14 @@ use Rattle.bank_tables.specs.Items.{Set}
 use Rattle.bank_tables.specs.Sums.{sum_in, any_below}
 use Rattle.bank_tables.specs.Tables.{Tables, size, stimulus}
 use Rattle.certificate_model.specs.declared.node.Node.{Node}
-use Rattle.certificate_model.specs.declared.node.Node.TheVariants.{BranchItem, BranchStimulus, Bound, Ray, Count, Whole, Open}
+use Rattle.certificate_model.specs.declared.node.Node.TheVariants.{BranchItem, BranchStimulus, Bound, Ray, Count, Whole, Open, Fix}
 use Rattle.certificate_model.specs.declared.verdict.Verdict.TheVariants.{Partial}
 use Rattle.form_model.specs.Forms.{used, stimuli_of}
 use Rattle.certificate_model.specs.Paths.{Path, root, is_free, is_chosen, is_open, undecided, with_item, with_stimulus}
 use Rattle.form_model.specs.Problem.{Problem}
-use Rattle.certificate_model.specs.ProofTrees.{ProofTree}
+use Rattle.certificate_model.specs.Fixing.{is_put_out, is_taken_in, is_settled_on, fixed_path, settles}
+use Rattle.certificate_model.specs.ProofTrees.{ProofTree, vector_at}
+use Rattle.certificate_model.specs.Relaxed.{Multipliers}
 use Rattle.certificate_model.specs.Verdicts.{IsStimulusBranch, only_candidate, below, open_leaf, GivesFrom, IsVerdict}
 use Rattle.certificate_model.specs.Spending.{open_leaves, HasNoBranch, IsDepthFirst, AreSpentNodes, IsSpent}
 use Rattle.form_model.proofs.SumLaws.{either, or_true, or_left, or_right, any_intro, any_elim, sum_in-le, more}
@@ -140,42 +142,70 @@ module _ (P : Problem) (p : Path) where
       (record { taken = λ j e. e; out = λ j e. or_right _ _ e; branched_on = λ t e. e })
       s is.first is.last is.is_open (right_not_open s)
 
+-- ---- so does a Fix that settles something
+module _ (P : Problem) (p : Path) (v : Multipliers) (goal : ℕ) where
+  fix_goes_on : GoesOn p (fixed_path P p v goal)
+  fix_goes_on = record { taken = λ i e. or_right (is_taken_in P p v goal i) _ e; out = λ i e. or_right (is_put_out P p v goal i) _ e; branched_on = λ s e. or_right (is_settled_on P p v goal s) _ e }
+
+  settled_item : (i : ℕ) → (is_put_out P p v goal i || is_taken_in P p v goal i) ≡ true → undecided P (fixed_path P p v goal) + 1 ≤ undecided P p
+  settled_item i e =
+      elim (or_true (is_put_out P p v goal i) _ e) [
+        | inl out ↦ item_decided P p (fixed_path P p v goal) fix_goes_on i (and_parts (is_free P p i) _ out).0 (not_both (nat_lt i (size P.bank)) ((fixed_path P p v goal).taken i) ((fixed_path P p v goal).out i) (or_right ((fixed_path P p v goal).taken i) _ (or_left _ _ out)))
+        | inr taken ↦ item_decided P p (fixed_path P p v goal) fix_goes_on i (and_parts (is_free P p i) _ taken).0 (not_both (nat_lt i (size P.bank)) ((fixed_path P p v goal).taken i) ((fixed_path P p v goal).out i) (or_left _ _ (or_left _ _ taken)))
+      ]
+
+  settled_stimulus : (k : ℕ) → k < stimuli_of P.bank → is_settled_on P p v goal (suc k) ≡ true → undecided P (fixed_path P p v goal) + 1 ≤ undecided P p
+  settled_stimulus k within e =
+      let chosen : is_chosen P (fixed_path P p v goal) (suc k) ≡ true = or_left _ _ (or_left _ _ e) in
+      stimulus_decided P p (fixed_path P p v goal) fix_goes_on (suc k) (omega arith) (omega arith) (and_parts (is_open P p (suc k)) _ e).0
+      (ap (λ (b : Bool). not b && used P.bank (is_free P (fixed_path P p v goal)) (suc k)) chosen)
+
+  pub fix_decided : settles P p v goal ≡ true → undecided P (fixed_path P p v goal) + 1 ≤ undecided P p
+  fix_decided e =
+      elim (or_true (any_below (size P.bank) (λ i. is_put_out P p v goal i || is_taken_in P p v goal i)) _ e) [
+        | inl items ↦ let (i, within, at) = any_elim (size P.bank) (λ i. is_put_out P p v goal i || is_taken_in P p v goal i) items in settled_item i at
+        | inr stimuli ↦ let (k, within, at) = any_elim (stimuli_of P.bank) (λ k. is_settled_on P p v goal (suc k)) stimuli in settled_stimulus k within at
+      ]
+
 -- ---- a spent tree has few Open leaves
 -- one Open leaf more than what is undecided and waits, at the path where that is most
 room : Problem → List Path → ℕ
 room P [] = 0
 room P (p ∷ paths) = max (room P paths) (undecided P p + 1 + length paths)
 
-no_branch_few : (P : Problem) (nodes : List Node) (paths : List Path) → HasNoBranch nodes → AreSpentNodes P nodes paths → open_leaves nodes ≤ length paths
-no_branch_few P [] [] none spent = omega arith
-no_branch_few P [] (p ∷ paths) none spent = absurd spent
-no_branch_few P (node ∷ nodes) [] none spent = absurd spent
-no_branch_few P (BranchItem i ∷ nodes) (p ∷ paths) none spent = absurd (none.0 tt)
-no_branch_few P (BranchStimulus s ∷ nodes) (p ∷ paths) none spent = absurd (none.0 tt)
-no_branch_few P (Bound v ∷ nodes) (p ∷ paths) none spent = omega (arith, no_branch_few P nodes paths none.1 spent.1)
-no_branch_few P (Ray v ∷ nodes) (p ∷ paths) none spent = omega (arith, no_branch_few P nodes paths none.1 spent.1)
-no_branch_few P (Count r ∷ nodes) (p ∷ paths) none spent = omega (arith, no_branch_few P nodes paths none.1 spent.1)
-no_branch_few P (Whole ∷ nodes) (p ∷ paths) none spent = omega (arith, no_branch_few P nodes paths none.1 spent.1)
-no_branch_few P (Open ∷ nodes) (p ∷ paths) none spent = omega (arith, no_branch_few P nodes paths none.1 spent.1)
+no_branch_few : (P : Problem) (T : ProofTree) (nodes : List Node) (paths : List Path) → HasNoBranch nodes → AreSpentNodes P T nodes paths → open_leaves nodes ≤ length paths
+no_branch_few P T [] [] none spent = omega arith
+no_branch_few P T [] (p ∷ paths) none spent = absurd spent
+no_branch_few P T (node ∷ nodes) [] none spent = absurd spent
+no_branch_few P T (BranchItem i ∷ nodes) (p ∷ paths) none spent = absurd (none.0 tt)
+no_branch_few P T (BranchStimulus s ∷ nodes) (p ∷ paths) none spent = absurd (none.0 tt)
+no_branch_few P T (Fix v goal ∷ nodes) (p ∷ paths) none spent = absurd (none.0 tt)
+no_branch_few P T (Bound v ∷ nodes) (p ∷ paths) none spent = omega (arith, no_branch_few P T nodes paths none.1 spent.1)
+no_branch_few P T (Ray v ∷ nodes) (p ∷ paths) none spent = omega (arith, no_branch_few P T nodes paths none.1 spent.1)
+no_branch_few P T (Count r ∷ nodes) (p ∷ paths) none spent = omega (arith, no_branch_few P T nodes paths none.1 spent.1)
+no_branch_few P T (Whole ∷ nodes) (p ∷ paths) none spent = omega (arith, no_branch_few P T nodes paths none.1 spent.1)
+no_branch_few P T (Open ∷ nodes) (p ∷ paths) none spent = omega (arith, no_branch_few P T nodes paths none.1 spent.1)
 
-open_in_room : (P : Problem) (nodes : List Node) (paths : List Path) → IsDepthFirst nodes → AreSpentNodes P nodes paths → open_leaves nodes ≤ room P paths
+open_in_room : (P : Problem) (T : ProofTree) (nodes : List Node) (paths : List Path) → IsDepthFirst nodes → AreSpentNodes P T nodes paths → open_leaves nodes ≤ room P paths
 unfolding room
-open_in_room P [] [] first spent = omega arith
-open_in_room P [] (p ∷ paths) first spent = absurd spent
-open_in_room P (node ∷ nodes) [] first spent = absurd spent
-open_in_room P (BranchItem i ∷ nodes) (p ∷ paths) first spent =
-    omega (arith, open_in_room P nodes (with_item p i true ∷ with_item p i false ∷ paths) first spent.1, item_side P p i true spent.0.0, item_side P p i false spent.0.0)
-open_in_room P (BranchStimulus s ∷ nodes) (p ∷ paths) first spent =
-    omega (arith, open_in_room P nodes (with_stimulus P p s true ∷ with_stimulus P p s false ∷ paths) first spent.1, stimulus_side P p s true spent.0.0, stimulus_side P p s false spent.0.0)
-open_in_room P (Bound v ∷ nodes) (p ∷ paths) first spent = omega (arith, open_in_room P nodes paths first spent.1)
-open_in_room P (Ray v ∷ nodes) (p ∷ paths) first spent = omega (arith, open_in_room P nodes paths first spent.1)
-open_in_room P (Count r ∷ nodes) (p ∷ paths) first spent = omega (arith, open_in_room P nodes paths first spent.1)
-open_in_room P (Whole ∷ nodes) (p ∷ paths) first spent = omega (arith, open_in_room P nodes paths first spent.1)
-open_in_room P (Open ∷ nodes) (p ∷ paths) first spent = omega (arith, no_branch_few P nodes paths first spent.1)
+open_in_room P T [] [] first spent = omega arith
+open_in_room P T [] (p ∷ paths) first spent = absurd spent
+open_in_room P T (node ∷ nodes) [] first spent = absurd spent
+open_in_room P T (BranchItem i ∷ nodes) (p ∷ paths) first spent =
+    omega (arith, open_in_room P T nodes (with_item p i true ∷ with_item p i false ∷ paths) first spent.1, item_side P p i true spent.0.0, item_side P p i false spent.0.0)
+open_in_room P T (BranchStimulus s ∷ nodes) (p ∷ paths) first spent =
+    omega (arith, open_in_room P T nodes (with_stimulus P p s true ∷ with_stimulus P p s false ∷ paths) first spent.1, stimulus_side P p s true spent.0.0, stimulus_side P p s false spent.0.0)
+open_in_room P T (Fix v goal ∷ nodes) (p ∷ paths) first spent =
+    omega (arith, open_in_room P T nodes (fixed_path P p (vector_at T v) goal ∷ paths) first spent.1, fix_decided P p (vector_at T v) goal spent.0.0.2)
+open_in_room P T (Bound v ∷ nodes) (p ∷ paths) first spent = omega (arith, open_in_room P T nodes paths first spent.1)
+open_in_room P T (Ray v ∷ nodes) (p ∷ paths) first spent = omega (arith, open_in_room P T nodes paths first spent.1)
+open_in_room P T (Count r ∷ nodes) (p ∷ paths) first spent = omega (arith, open_in_room P T nodes paths first spent.1)
+open_in_room P T (Whole ∷ nodes) (p ∷ paths) first spent = omega (arith, open_in_room P T nodes paths first spent.1)
+open_in_room P T (Open ∷ nodes) (p ∷ paths) first spent = omega (arith, no_branch_few P T nodes paths first spent.1)
 
 pub few_open : (P : Problem) (T : ProofTree) (budget : ℕ) → IsSpent P T budget → open_leaves T.nodes ≤ undecided P (root P) + 1
 unfolding room
-few_open P T budget spent = let most : open_leaves T.nodes ≤ room P (root P ∷ []) = open_in_room P T.nodes (root P ∷ []) spent.depth_first spent.unresolved in omega arith
+few_open P T budget spent = let most : open_leaves T.nodes ≤ room P (root P ∷ []) = open_in_room P T T.nodes (root P ∷ []) spent.depth_first spent.unresolved in omega arith
 
 -- ---- a tree of sound nodes with an Open leaf is small
 -- the nodes of full binary trees over what is undecided, and one for each tree
@@ -188,6 +218,9 @@ double u = rw add-one (omega (arith, pow-suc 2 u))
 
 halves : (u l r : ℕ) → l + 1 ≤ u → r + 1 ≤ u → 2 ^ (l + 1) + 2 ^ (r + 1) ≤ 2 ^ (u + 1)
 halves u l r a b = omega (arith, pow_mono a, pow_mono b, double u)
+
+one_less : (u l : ℕ) → l + 1 ≤ u → 2 ^ (l + 1) + 1 ≤ 2 ^ (u + 1)
+one_less u l a = let e : 2 ^ 0 ≤ 2 ^ u = pow_mono {i = 0} (omega arith) in omega (arith, pow_mono a, double u)
 
 leaf_room : (u : ℕ) → 2 ≤ 2 ^ (u + 1)
 leaf_room u = let e : 2 ^ 1 ≤ 2 ^ (u + 1) = pow_mono {i = 1} (omega arith) in e
@@ -222,6 +255,10 @@ small P X T at met (BranchItem i ∷ nodes) (p ∷ paths) k (inl s) =
 small P X T at met (BranchStimulus t ∷ nodes) (p ∷ paths) k (inl s) =
     let rest = small P X T (at + 1) (met + 0) nodes (with_stimulus P p t true ∷ with_stimulus P p t false ∷ paths) k s.1 in
     (omega (arith, rest.0, halves (undecided P p) _ _ (stimulus_side P p t true s.0) (stimulus_side P p t false s.0)), omega (arith, rest.1))
+small P X T at met (Fix v goal ∷ nodes) (p ∷ paths) k (inl s) =
+    let rest = small P X T (at + 1) (met + 0) nodes (fixed_path P p (vector_at T v) goal ∷ paths) k s.1 in
+    let less = fix_decided P p (vector_at T v) goal s.0.3 in
+    (omega (arith, rest.0, one_less (undecided P p) _ less), omega (arith, rest.1))
 small P X T at met (Bound v ∷ nodes) (p ∷ paths) k (inl s) =
     let rest = small P X T (at + 1) (met + 0) nodes paths k s.1 in (omega (arith, rest.0, leaf_room (undecided P p)), omega (arith, rest.1))
 small P X T at met (Ray v ∷ nodes) (p ∷ paths) k (inl s) =
@@ -240,7 +277,7 @@ some_met P X T at met (node ∷ nodes) [] k gives = absurd gives
 some_met P X T at (suc met) [] [] k gives = let same : k ≡ suc met = (let e : Partial k ≡ Partial (suc met) = gives in cc) in omega arith
 some_met P None T at zero [] [] k gives = absurd (cc)
 some_met P (Some X) T at zero [] [] k gives = absurd (cc)
-some_met P X T at met (node ∷ nodes) (p ∷ paths) k (inl s) = some_met P X T (at + 1) (met + open_leaf node) nodes (below P p node ++ paths) k s.1
+some_met P X T at met (node ∷ nodes) (p ∷ paths) k (inl s) = some_met P X T (at + 1) (met + open_leaf node) nodes (below P T p node ++ paths) k s.1
 some_met P X T at met (node ∷ nodes) (p ∷ paths) k (inr bad) = absurd (let e = bad.2 in cc)
 
 pub partial_counts_open : (P : Problem) (X : Option Set) (T : ProofTree) (k : ℕ) → IsVerdict P X T (Partial k) → (0 < k) × (k ≡ open_leaves T.nodes)

@@ -7,6 +7,7 @@ use Rattle.form_model.specs.Problem.{Problem}
 use Rattle.form_model.specs.Forms.{Form, Best, HasNoForm, objective}
 use Rattle.certificate_model.specs.Paths.{Path, root, undecided, Under}
 use Rattle.certificate_model.specs.Relaxed.{Multipliers, cap, lagrangian_without_links, lagrangian, IsRelaxedMaximum}
+use Rattle.certificate_model.specs.Fixing.{fixed_path}
 use Rattle.certificate_model.specs.ClosedForm.{IsGreatestFill, closed_form}
 use Rattle.certificate_model.specs.Counting.{is_impossible, length_impossible}
 use Rattle.certificate_model.specs.ProofTrees.{ProofTree}
@@ -18,6 +19,11 @@ use Rattle.certificate_model.specs.Spending.{open_leaves, IsSpent}
 abbrev pub WeakDuality : Type 0
 WeakDuality = (P : Problem) (p : Path) (v : Multipliers) (r : ℤ) (X : Set)
     → IsRelaxedMaximum P p v false r → Under P p X → pos (256 * objective P X) ≤ℤ r
+
+-- a form on a path that is better than a goal is on the path that a vector fixes for this goal
+abbrev pub FixKeeps : Type 0
+FixKeeps = (P : Problem) (p : Path) (v : Multipliers) (goal : ℕ) (X : Set) → Under P p X
+    → goal < objective P X → Under P (fixed_path P p v goal) X
 
 -- a vector that names neither side of the cap has the Lagrangian without the links
 abbrev pub NoCapNoLinks : Type 0

@@ -5,6 +5,7 @@ pub mod Weights
 pub mod Relaxed
 pub mod ClosedForm
 pub mod ProofTrees
+pub mod Fixing
 pub mod Verdicts
 pub mod Pruning
 pub mod Spending

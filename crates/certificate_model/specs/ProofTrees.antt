@@ -1,7 +1,7 @@
 -- The shape of proof trees.
 use Rattle.std.specs.Prelude.{ℕ, zero, suc, ◌+◌, ◌<◌, ◌≤◌, List, [], ◌∷◌, length, get_or, All, sum_by}
 use Rattle.certificate_model.specs.declared.node.Node.{Node}
-use Rattle.certificate_model.specs.declared.node.Node.TheVariants.{BranchItem, BranchStimulus}
+use Rattle.certificate_model.specs.declared.node.Node.TheVariants.{BranchItem, BranchStimulus, Fix}
 use Rattle.certificate_model.specs.Relaxed.{Multipliers}
 
 -- vectors of multipliers, and nodes in preorder
@@ -25,6 +25,7 @@ AreTrees (suc wait) [] = ⊥
 AreTrees zero (node ∷ nodes) = ⊥
 AreTrees (suc wait) (BranchItem i ∷ nodes) = AreTrees (suc (suc wait)) nodes
 AreTrees (suc wait) (BranchStimulus s ∷ nodes) = AreTrees (suc (suc wait)) nodes
+AreTrees (suc wait) (Fix v goal ∷ nodes) = AreTrees (suc wait) nodes
 AreTrees (suc wait) (node ∷ nodes) = AreTrees wait nodes
 
 -- the vectors of a proof tree: at most 255, each of at most 384 pairs with sides below 386, and at

@@ -10,13 +10,13 @@ use Rattle.certificate_model.specs.Verdicts.{below}
 
 -- at each of the nodes in preorder, one subtree for each waiting path: where a row is impossible by
 -- counting, the node is the Count leaf of the lowest such row
-abbrev pub ArePruned : Problem → List Node → List Path → Type 0
-ArePruned P [] [] = Unit {0}
-ArePruned P [] (p ∷ paths) = ⊥
-ArePruned P (node ∷ nodes) [] = ⊥
-ArePruned P (node ∷ nodes) (p ∷ paths) = ((r : ℕ) → IsFirstImpossible P p (Some r) → node ≡ Count r)
-    × ArePruned P nodes (below P p node ++ paths)
+abbrev pub ArePruned : Problem → ProofTree → List Node → List Path → Type 0
+ArePruned P T [] [] = Unit {0}
+ArePruned P T [] (p ∷ paths) = ⊥
+ArePruned P T (node ∷ nodes) [] = ⊥
+ArePruned P T (node ∷ nodes) (p ∷ paths) = ((r : ℕ) → IsFirstImpossible P p (Some r) → node ≡ Count r)
+    × ArePruned P T nodes (below P T p node ++ paths)
 
 -- so it is in the whole tree
 abbrev pub IsPruned : Problem → ProofTree → Type 0
-IsPruned P T = ArePruned P T.nodes (root P ∷ [])
+IsPruned P T = ArePruned P T T.nodes (root P ∷ [])

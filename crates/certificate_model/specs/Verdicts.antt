@@ -4,15 +4,16 @@ use Rattle.bank_tables.specs.Items.{Set}
 use Rattle.bank_tables.specs.Tables.{size}
 use Rattle.bank_tables.specs.Sums.{any_below}
 use Rattle.certificate_model.specs.declared.node.Node.{Node}
-use Rattle.certificate_model.specs.declared.node.Node.TheVariants.{BranchItem, BranchStimulus, Bound, Ray, Count, Whole, Open}
+use Rattle.certificate_model.specs.declared.node.Node.TheVariants.{BranchItem, BranchStimulus, Bound, Ray, Count, Whole, Open, Fix}
 use Rattle.certificate_model.specs.declared.verdict.Reason.{Reason}
-use Rattle.certificate_model.specs.declared.verdict.Reason.TheVariants.{NotForm, Determined, NoVector, NoSide, NotClosed, NotNegative, RowPossible, NotWhole, Better, OpenWhole}
+use Rattle.certificate_model.specs.declared.verdict.Reason.TheVariants.{NotForm, Determined, NoVector, NoSide, NotClosed, NotNegative, RowPossible, NotWhole, Better, OpenWhole, FixesNothing}
 use Rattle.certificate_model.specs.declared.verdict.Verdict.{Verdict}
 use Rattle.certificate_model.specs.declared.verdict.Verdict.TheVariants.{Optimal, NoForm, Partial, Bad}
 use Rattle.form_model.specs.Problem.{Problem}
 use Rattle.form_model.specs.Forms.{Form, objective, used, stimuli_of, size_in}
 use Rattle.certificate_model.specs.Paths.{Path, root, is_free, is_chosen, is_open, with_item, with_stimulus}
 use Rattle.certificate_model.specs.Relaxed.{Multipliers, cap_side, IsRelaxedMaximum}
+use Rattle.certificate_model.specs.Fixing.{fixed_path, settles}
 use Rattle.certificate_model.specs.Counting.{is_impossible, taken_or_free}
 use Rattle.certificate_model.specs.ProofTrees.{ProofTree, vector_at}
 
@@ -70,6 +71,11 @@ pub record IsStimulusBranch (P : Problem) (p : Path) (s : ℕ) : Type 0 where
   pub last : s ≤ stimuli_of P.bank
   pub is_open : IsTrue (is_open P p s)
 
+-- X is there and its objective reaches the goal
+abbrev pub ReachesGoal : Problem → Option Set → ℕ → Type 0
+ReachesGoal P None goal = ⊥
+ReachesGoal P (Some X) goal = goal ≤ objective P X
+
 -- the node is sound on the path p, with a form X or none
 abbrev pub IsSound : Problem → Option Set → ProofTree → Path → Node → Type 0
 IsSound P X T p (BranchItem i) = IsTrue (is_free P p i)
@@ -81,6 +87,8 @@ IsSound P X T p (Ray v) = (v < length T.vectors) × NamesOnlySides P (vector_at 
 IsSound P X T p (Count r) = IsTrue (is_impossible P p r)
 IsSound P X T p Whole = CandidateIsSettled P X p (only_candidate P p)
 IsSound P X T p Open = only_candidate P p ≡ None
+IsSound P X T p (Fix v goal) = (v < length T.vectors) × NamesOnlySides P (vector_at T v)
+    × ReachesGoal P X goal × IsTrue (settles P p (vector_at T v) goal)
 
 -- why it is not
 abbrev pub IsUnsound : Problem → Option Set → ProofTree → Path → Node → Reason → Type 0
@@ -99,13 +107,22 @@ IsUnsound P X T p Whole NotWhole = only_candidate P p ≡ None
 IsUnsound P X T p Whole Better =
     (only_candidate P p ≢ None) × (CandidateIsSettled P X p (only_candidate P p) → ⊥)
 IsUnsound P X T p Open OpenWhole = only_candidate P p ≢ None
+IsUnsound P X T p (Fix v goal) NoVector = length T.vectors ≤ v
+IsUnsound P X T p (Fix v goal) NoSide =
+    (v < length T.vectors) × (NamesOnlySides P (vector_at T v) → ⊥)
+IsUnsound P X T p (Fix v goal) NotClosed = (v < length T.vectors) × NamesOnlySides P (vector_at T v)
+    × (ReachesGoal P X goal → ⊥)
+IsUnsound P X T p (Fix v goal) FixesNothing = (v < length T.vectors)
+    × NamesOnlySides P (vector_at T v) × ReachesGoal P X goal
+    × IsFalse (settles P p (vector_at T v) goal)
 IsUnsound P X T p node reason = ⊥
 
 -- the paths below a node, left first
-abbrev pub below : Problem → Path → Node → List Path
-below P p (BranchItem i) = with_item p i true ∷ with_item p i false ∷ []
-below P p (BranchStimulus s) = with_stimulus P p s true ∷ with_stimulus P p s false ∷ []
-below P p node = []
+abbrev pub below : Problem → ProofTree → Path → Node → List Path
+below P T p (BranchItem i) = with_item p i true ∷ with_item p i false ∷ []
+below P T p (BranchStimulus s) = with_stimulus P p s true ∷ with_stimulus P p s false ∷ []
+below P T p (Fix v goal) = fixed_path P p (vector_at T v) goal ∷ []
+below P T p node = []
 
 -- how many Open leaves a node is
 abbrev pub open_leaf : Node → ℕ
@@ -126,7 +143,7 @@ GivesFrom P X T at met [] [] verdict = verdict ≡ verdict_of X met
 GivesFrom P X T at met [] (p ∷ paths) verdict = ⊥
 GivesFrom P X T at met (node ∷ nodes) [] verdict = ⊥
 GivesFrom P X T at met (node ∷ nodes) (p ∷ paths) verdict = (IsSound P X T p node
-    × GivesFrom P X T (at + 1) (met + open_leaf node) nodes (below P p node ++ paths) verdict)
+    × GivesFrom P X T (at + 1) (met + open_leaf node) nodes (below P T p node ++ paths) verdict)
     ⊎ ((reason : Reason) × IsUnsound P X T p node reason × (verdict ≡ Bad at reason))
 
 -- the set is a form, or there is none

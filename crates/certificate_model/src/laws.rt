@@ -1,11 +1,17 @@
 //! What the definitions imply, for every problem, path, vector, tree and set of items.
 
-ghost use Rattle.certificate_model.specs.Laws.{WeakDuality, NoCapNoLinks, RayIsNotNegative, CountingIsSound, OptimalIsBest, NoFormIsNone, OneVerdict, PartialCountsOpen, PartialIsSmall, FewOpen, ClosedFormIsMaximum, BetteringKeeps, SomeMaximum, OneMaximum, MaximumMeansPossible};
+ghost use Rattle.certificate_model.specs.Laws.{WeakDuality, FixKeeps, NoCapNoLinks, RayIsNotNegative, CountingIsSound, OptimalIsBest, NoFormIsNone, OneVerdict, PartialCountsOpen, PartialIsSmall, FewOpen, ClosedFormIsMaximum, BetteringKeeps, SomeMaximum, OneMaximum, MaximumMeansPossible};
 
 /// No form on a path exceeds the relaxed maximum there, whatever the multipliers (weak duality of
 /// Lagrangian relaxation; Geoffrion, Lagrangean Relaxation for Integer Programming, 1974).
 pub fn weak_duality()
     ensures { WeakDuality }
+{}
+
+/// A form on a path that is better than a goal is on the path that a vector fixes for this goal
+/// (reduced cost fixing; Nemhauser and Wolsey, Integer and Combinatorial Optimization, 1988).
+pub fn fix_keeps()
+    ensures { FixKeeps }
 {}
 
 /// To a vector that names neither side of the cap the cap changes nothing.

@@ -1,6 +1,6 @@
 //! The nodes of a proof tree.
 
-/// A node; a branch has two subtrees after it in preorder, left first.
+/// A node; a branch has two subtrees after it in preorder, left first, and `Fix` has one.
 #[derive(Clone, Copy, Debug, PartialEq, Eq)]
 pub enum Node {
     /// Left, the item is in the form; right, it is not.
@@ -17,4 +17,7 @@ pub enum Node {
     Whole,
     /// Nothing is shown.
     Open,
+    /// Below are the forms better than a goal: by this vector they have, or lack, what it settles
+    /// (reduced cost fixing). The goal is an objective, which the form reaches.
+    Fix(u8, u32),
 }

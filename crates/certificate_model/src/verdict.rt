@@ -11,7 +11,8 @@ pub enum Reason {
     NoVector,
     /// The vector names a side that is not in the plan.
     NoSide,
-    /// The relaxed maximum isn't low enough, or there is no form to compare with.
+    /// The relaxed maximum isn't low enough, the form doesn't reach the goal, or there is no form
+    /// to compare with.
     NotClosed,
     /// The ray's relaxed maximum isn't below 0.
     NotNegative,
@@ -23,6 +24,8 @@ pub enum Reason {
     Better,
     /// An Open leaf where one set of items is left.
     OpenWhole,
+    /// The vector settles no item and no stimulus.
+    FixesNothing,
 }
 
 /// The verdict on a tree, with a form or none.

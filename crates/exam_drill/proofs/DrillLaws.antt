@@ -111,7 +111,7 @@ are_records : (R : List Record) → AllByRecursion (IsRecordIn 2) R → AllByRec
 are_records [] is = tt
 are_records (r ∷ R) is = (is.0.is_record, are_records R is.1)
 
-most_few : (entry : Entry) → most_of entry ≤ 86605
+most_few : (entry : Entry) → most_of entry ≤ 98890
 most_few (Started session booking eligible without) = omega arith
 most_few (SetAside session step band cause nodes) = omega arith
 most_few (Served session step item form proved nodes) = omega arith
@@ -127,8 +127,8 @@ has_room number sessions p b requests (JournalFull size most) few said stopped =
     let items_is : p.length ≡ 20 = ap (λ (s : SaidPlan). s.length) said in
     let sessions_is : p.sessions ≡ sessions = ap (λ (s : SaidPlan). s.sessions) said in
     let journal_is : p.journal ≡ 536870912 = ap (λ (s : SaidPlan). s.journal) said in
-    let session_is : most_of_session p ≡ 1833203 = ap (λ (n : ℕ). with_tree * (n + 1) + without_tree * (n + 2)) items_is in
-    let all_is : p.sessions * most_of_session p ≡ sessions * 1833203 = ap (λ (n : ℕ). n * most_of_session p) sessions_is ∙ ap (λ (n : ℕ). sessions * n) session_is in
+    let session_is : most_of_session p ≡ 2091188 = ap (λ (n : ℕ). with_tree * (n + 1) + without_tree * (n + 2)) items_is in
+    let all_is : p.sessions * most_of_session p ≡ sessions * 2091188 = ap (λ (n : ℕ). n * most_of_session p) sessions_is ∙ ap (λ (n : ℕ). sessions * n) session_is in
     let short = journals_are_short b p t.records one_band (are_records t.records t.are.spell) t.are.backed in
     let with_last : end_of 8 (map payload_of (t.records ++ t.last ∷ [])) ≡ end_of 8 (map payload_of t.records) + 5 + length (payload_of t.last) =
     ap (end_of 8) (map-append payload_of t.records (t.last ∷ [])) ∙ end-push 8 (map payload_of t.records) (payload_of t.last) in

@@ -36,7 +36,7 @@ use Rattle.serving_model.specs.Seats.{is_aside_in}
 use Rattle.exam_drill.specs.Lengths.{FramesAreShort, JournalsAreShort, most_of, most_of_session, with_tree, without_tree}
 
 -- ---- a frame
-short_so : (entry : Entry) (tree : Option ProofTree) → GoesWith entry tree → HasBands entry → length (entry_bytes entry ++ tree_bytes tree) ≤ 86600 → 5 + length (entry_bytes entry ++ tree_bytes tree) ≤ most_of entry
+short_so : (entry : Entry) (tree : Option ProofTree) → GoesWith entry tree → HasBands entry → length (entry_bytes entry ++ tree_bytes tree) ≤ 98885 → 5 + length (entry_bytes entry ++ tree_bytes tree) ≤ most_of entry
 unfolding entry_bytes
 short_so (Started session booking eligible None) None goes bands few = omega (arith, bands.0.few, length-append (sets_bytes eligible.count eligible.sets) [], sets_len eligible.count eligible.sets)
 short_so (Started session booking eligible (Some list)) None goes bands few =

@@ -12,7 +12,7 @@ use Rattle.history_model.specs.Judging.{Record, Backed}
 
 -- the most bytes of a frame: of a record with a proof tree, and of one without
 abbrev pub with_tree : ℕ
-with_tree = 86605
+with_tree = 98890
 
 abbrev pub without_tree : ℕ
 without_tree = 659

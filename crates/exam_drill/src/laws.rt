@@ -2,7 +2,7 @@
 
 ghost use Rattle.exam_drill.specs.Lengths.{FramesAreShort, JournalsAreShort};
 
-/// A frame has at most 86,605 bytes, and one of a record without a proof tree at most 659.
+/// A frame has at most 98,890 bytes, and one of a record without a proof tree at most 659.
 pub fn frames_are_short()
     ensures { FramesAreShort }
 {}

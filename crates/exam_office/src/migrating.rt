@@ -121,7 +121,7 @@ fn take_over(alloc: Global, at: u64, payload: &[u8], book: &mut Book) -> Result<
     ensures taken { IfOk result (λ second. IsTakenOver book.old.bank book.old.plan
         book.old.entries payload.now book.new.entries second.items) }
     ensures some { IfOk result (λ second. 0 < length second.items) }
-    ensures few { IfOk result (λ second. length second.items ≤ 86600) }
+    ensures few { IfOk result (λ second. length second.items ≤ 98885) }
     ensures refused { IfErr result
         (IsNotTaken book.old.bank book.old.plan 1 book.old.entries at payload.now) }
 {

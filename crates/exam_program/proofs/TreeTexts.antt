@@ -9,7 +9,7 @@ use Rattle.hex.specs.Hex.{IsBytes, decode_of, encode_lower}
 use Rattle.hex.specs.declared.error.FromHexError.{FromHexError}
 use Rattle.hex.proofs.HexLemmas.{decode_of-encode_lower}
 use Rattle.certificate_model.specs.declared.node.Node.{Node}
-use Rattle.certificate_model.specs.declared.node.Node.TheVariants.{BranchItem, BranchStimulus, Bound, Ray, Count, Whole, Open}
+use Rattle.certificate_model.specs.declared.node.Node.TheVariants.{BranchItem, BranchStimulus, Bound, Ray, Count, Whole, Open, Fix}
 use Rattle.certificate_model.specs.Relaxed.{Multipliers}
 use Rattle.certificate_model.specs.ProofTrees.{ProofTree}
 use Rattle.proof_tree.specs.Shape.{IsTree, IsNode}
@@ -65,6 +65,7 @@ node_is (Ray v) is = short_node 4 v (omega arith) is
 node_is (Count r) is = short_node 5 r (omega arith) (omega (arith, is))
 node_is Whole is = one_byte 6 [] (omega arith) none_bytes
 node_is Open is = one_byte 7 [] (omega arith) none_bytes
+node_is (Fix v goal) is = one_byte 8 (v ∷ to_be_bytes w32 goal) (omega arith) (one_byte v (to_be_bytes w32 goal) is.0 (four_bytes goal))
 
 tree_is : (T : ProofTree) → IsTree T → IsBytes (bytes_of T)
 unfolding bytes_of

@@ -263,7 +263,7 @@ is_read r payload is spelled = ap old_record_of spelled ∙ all_is_read r is
 
 -- ---- how many bytes
 
-whole_len : (first : ℕ) (entry : Entry) (tree : Option ProofTree) → GoesWith entry tree → IsTreeOrNone tree → (0 < length (old_entry_bytes first entry ++ tree_bytes tree)) × (length (old_entry_bytes first entry ++ tree_bytes tree) ≤ 86600)
+whole_len : (first : ℕ) (entry : Entry) (tree : Option ProofTree) → GoesWith entry tree → IsTreeOrNone tree → (0 < length (old_entry_bytes first entry ++ tree_bytes tree)) × (length (old_entry_bytes first entry ++ tree_bytes tree) ≤ 98885)
 unfolding old_entry_bytes
 whole_len first (Started session booking eligible without) None goes is = (omega arith, omega (arith, length-append (set_bytes (has (get_or eligible.sets first []))) [], numbers_len 64 8 (has (get_or eligible.sets first []))))
 whole_len first (Started session booking eligible without) (Some T) goes is = absurd goes
@@ -277,6 +277,6 @@ whole_len first (Closed session) None goes is = (omega arith, omega arith)
 whole_len first (Closed session) (Some T) goes is = absurd goes
 
 -- a payload has some bytes, and not many
-pub record_len : (first : ℕ) (r : Record) → GoesWith r.entry r.tree → IsTreeOrNone r.tree → (0 < length (old_payload_of first r)) × (length (old_payload_of first r) ≤ 86600)
+pub record_len : (first : ℕ) (r : Record) → GoesWith r.entry r.tree → IsTreeOrNone r.tree → (0 < length (old_payload_of first r)) × (length (old_payload_of first r) ≤ 98885)
 unfolding old_payload_of
 record_len first r goes tree = whole_len first r.entry r.tree goes tree

@@ -255,7 +255,7 @@ is_found payload (Err e) fits given = tt
 pub is_read : (r : Record) (payload : List ℕ) → IsRecord r → payload ≡ payload_of r → record_of payload ≡ Ok r
 is_read r payload is spelled = ap record_of spelled ∙ written_is_read r is
 
-whole_len : (entry : Entry) (tree : Option ProofTree) → GoesWith entry tree → HasBands entry → IsTreeOrNone tree → (0 < length (entry_bytes entry ++ tree_bytes tree)) × (length (entry_bytes entry ++ tree_bytes tree) ≤ 86600)
+whole_len : (entry : Entry) (tree : Option ProofTree) → GoesWith entry tree → HasBands entry → IsTreeOrNone tree → (0 < length (entry_bytes entry ++ tree_bytes tree)) × (length (entry_bytes entry ++ tree_bytes tree) ≤ 98885)
 unfolding entry_bytes
 whole_len (Started session booking eligible None) None goes bands is = (omega arith, omega (arith, bands.0.few, length-append (sets_bytes eligible.count eligible.sets) [], sets_len eligible.count eligible.sets))
 whole_len (Started session booking eligible (Some list)) None goes bands is =
@@ -271,6 +271,6 @@ whole_len (Closed session) None goes bands is = (omega arith, omega arith)
 whole_len (Closed session) (Some T) goes bands is = absurd goes
 
 -- a payload has some bytes, and not many
-pub record_len : (r : Record) → GoesWith r.entry r.tree → HasBands r.entry → IsTreeOrNone r.tree → (0 < length (payload_of r)) × (length (payload_of r) ≤ 86600)
+pub record_len : (r : Record) → GoesWith r.entry r.tree → HasBands r.entry → IsTreeOrNone r.tree → (0 < length (payload_of r)) × (length (payload_of r) ≤ 98885)
 unfolding payload_of
 record_len r goes bands tree = whole_len r.entry r.tree goes bands tree

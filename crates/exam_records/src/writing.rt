@@ -248,7 +248,7 @@ fn push_tree(alloc: Global, out: &mut Vec<u8>, tree: Option<&Tree>) -> Result<()
 }
 
 /// Writes the spelling of the record of an entry and its tree in the second version of the journal,
-/// at most 86,600 bytes, after what was written before. The conditions are that there is a tree
+/// at most 98,885 bytes, after what was written before. The conditions are that there is a tree
 /// exactly where the entry is SetAside or Served, that the entry's number of nodes is the tree's,
 /// that a start has 1 to 8 bands that count and no items in the others, that its list, if there is
 /// one, isn't empty, and that the band of a setting aside is below 8. Fails only where it is out of
@@ -269,7 +269,7 @@ pub fn push_record(
     ensures some { 0 < length
         (payload_of (record { entry = entry.now; tree = option_copied tree.entry })) }
     ensures few { length (payload_of
-        (record { entry = entry.now; tree = option_copied tree.entry })) ≤ 86600 }
+        (record { entry = entry.now; tree = option_copied tree.entry })) ≤ 98885 }
 {
     is_record(entry, tree);
     push_entry(out, entry)?;
@@ -286,7 +286,7 @@ pub fn encode_parts(alloc: Global, entry: &Entry, tree: Option<&Tree>) -> Result
     // The entry and its tree are a record.
     ensures is_record { IsRecord (record { entry = entry.now; tree = option_copied tree.entry }) }
     ensures some { IfOk result (λ bytes. 0 < length bytes.items) }
-    ensures few { IfOk result (λ bytes. length bytes.items ≤ 86600) }
+    ensures few { IfOk result (λ bytes. length bytes.items ≤ 98885) }
 {
     let mut out = Vec::new(alloc);
     push_record(alloc, &mut out, entry, tree)?;
@@ -301,13 +301,13 @@ pub fn encode(alloc: Global, rec: &Record) -> Result<Vec<u8>, Memory>
     ensures spelling { IfOk result (λ bytes. bytes.items ≡ payload_of rec.now) }
     ensures is_record { IsRecord rec.now }
     ensures some { IfOk result (λ bytes. 0 < length bytes.items) }
-    ensures few { IfOk result (λ bytes. length bytes.items ≤ 86600) }
+    ensures few { IfOk result (λ bytes. length bytes.items ≤ 98885) }
 {
     encode_parts(alloc, &rec.entry, rec.tree.as_ref())
 }
 
 /// Writes the spelling of the record of an entry and its tree in the first version of the journal,
-/// at most 86,600 bytes, after what was written before. Of a start it keeps the set of one band,
+/// at most 98,885 bytes, after what was written before. Of a start it keeps the set of one band,
 /// `first`, which is to be the band where each session begins, and no list; of a setting aside it
 /// keeps neither the step nor the band. The conditions are that there is such a band, that there is
 /// a tree exactly where the entry is SetAside or Served, and that the entry's number of nodes is
@@ -331,7 +331,7 @@ pub fn push_old_record(
     ensures some { 0 < length
         (old_payload_of first (record { entry = entry.now; tree = option_copied tree.entry })) }
     ensures few { length (old_payload_of first
-        (record { entry = entry.now; tree = option_copied tree.entry })) ≤ 86600 }
+        (record { entry = entry.now; tree = option_copied tree.entry })) ≤ 98885 }
 {
     is_record(entry, tree);
     push_old_entry(out, first, entry)?;
@@ -354,7 +354,7 @@ pub fn encode_old_parts(
     ensures is_record { HasBands entry.now
         → IsRecord (record { entry = entry.now; tree = option_copied tree.entry }) }
     ensures some { IfOk result (λ bytes. 0 < length bytes.items) }
-    ensures few { IfOk result (λ bytes. length bytes.items ≤ 86600) }
+    ensures few { IfOk result (λ bytes. length bytes.items ≤ 98885) }
 {
     let mut out = Vec::new(alloc);
     push_old_record(alloc, &mut out, first, entry, tree)?;
@@ -369,7 +369,7 @@ pub fn encode_old(alloc: Global, first: u8, rec: &Record) -> Result<Vec<u8>, Mem
     ensures spelling { IfOk result (λ bytes. bytes.items ≡ old_payload_of first rec.now) }
     ensures is_record { HasBands rec.now.entry → IsRecord rec.now }
     ensures some { IfOk result (λ bytes. 0 < length bytes.items) }
-    ensures few { IfOk result (λ bytes. length bytes.items ≤ 86600) }
+    ensures few { IfOk result (λ bytes. length bytes.items ≤ 98885) }
 {
     encode_old_parts(alloc, first, &rec.entry, rec.tree.as_ref())
 }

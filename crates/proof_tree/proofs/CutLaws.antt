@@ -7,14 +7,14 @@ use Rattle.std.proofs.lemmas.List.{take-take, drop-take, length-take-le, get_or-
 use Rattle.exam_text.specs.First.{◌>>=◌, unless, fault_where}
 use Rattle.exam_text.proofs.Firsts.{bind_ok, unless_ok, ok_is, done}
 use Rattle.certificate_model.specs.declared.node.Node.{Node}
-use Rattle.certificate_model.specs.declared.node.Node.TheVariants.{BranchItem, BranchStimulus, Bound, Ray, Count, Whole, Open}
+use Rattle.certificate_model.specs.declared.node.Node.TheVariants.{BranchItem, BranchStimulus, Bound, Ray, Count, Whole, Open, Fix}
 use Rattle.certificate_model.specs.Relaxed.{Multipliers}
 use Rattle.certificate_model.specs.ProofTrees.{ProofTree}
 use Rattle.proof_tree.specs.declared.fault.TreeFault.{TreeFault}
 use Rattle.proof_tree.specs.declared.fault.TreeFault.TheVariants.{Short, BadVector, BadKind, Unfinished, TooLong}
 use Rattle.proof_tree.specs.Shape.{IsTree, children}
 use Rattle.proof_tree.specs.Spelling.{bytes_of}
-use Rattle.proof_tree.specs.Reading.{number_at, byte_at, pair_at, pairs_at, multipliers_at, vectors_at, item_branch_at, stimulus_branch_at, bound_at, ray_at, count_at, node_of_kind, node_at, nodes_at, read}
+use Rattle.proof_tree.specs.Reading.{number_at, byte_at, pair_at, pairs_at, multipliers_at, vectors_at, item_branch_at, stimulus_branch_at, bound_at, ray_at, count_at, fix_at, node_of_kind, node_at, nodes_at, read}
 use Rattle.proof_tree.specs.Cuts.{IsCutOff}
 use Rattle.proof_tree.proofs.Fields.{guard_ok, there_ok}
 use Rattle.proof_tree.proofs.NodeLaws.{chosen}
@@ -158,6 +158,17 @@ cut_count bytes k at x kb e =
     let u = unless_ok (fault_where (ltb 192 a.0) (BadKind at)) (Ok (Count a.0, at + 2)) x a.2 in
     cut_numbered bytes k at a.0 f x kb a.1 a.2 (place_of (Count a.0) (at + 2) x u.1)
 
+cut_fix : (bytes : List ℕ) (k at : ℕ) (x : Node × ℕ) → k ≤ length bytes → fix_at bytes at ≡ Ok x → ReadsOrCut k x.1 (fix_at (take k bytes) at) x
+unfolding fix_at
+cut_fix bytes k at x kb e =
+    let f : ℕ → Result (Node × ℕ) TreeFault = λ v. number_at w32 bytes (at + 2) >>= λ goal. Ok (Fix v goal, at + 6) in
+    let a = bind_ok (byte_at bytes (at + 1)) f x e in
+    let b = bind_ok (number_at w32 bytes (at + 2)) (λ goal. Ok (Fix a.0 goal, at + 6)) x a.2 in
+    let end = place_of (Fix a.0 b.0) (at + 6) x b.2 in
+    and_then k (at + 1 + 1) x.1 (byte_at (take k bytes) (at + 1)) a.0 (λ v. number_at w32 (take k bytes) (at + 2) >>= λ goal. Ok (Fix v goal, at + 6)) x (cut_byte bytes k (at + 1) a.0 kb a.1)
+    (λ le. and_then k (at + 2 + 4) x.1 (number_at w32 (take k bytes) (at + 2)) b.0 (λ goal. Ok (Fix a.0 goal, at + 6)) x (cut_number w32 bytes k (at + 2) b.0 kb b.1)
+    (λ within. inl (omega (arith, end), b.2)))
+
 cut_kind : (bytes : List ℕ) (k at kind : ℕ) (x : Node × ℕ) → k ≤ length bytes → at + 1 ≤ k → node_of_kind kind bytes at ≡ Ok x → ReadsOrCut k x.1 (node_of_kind kind (take k bytes) at) x
 unfolding node_of_kind
 cut_kind bytes k at kind x kb there e =
@@ -175,7 +186,10 @@ cut_kind bytes k at kind x kb there e =
                 | inl h ↦ rw (r1.0, r2.0, r3.0, r4.0, r5.0, h.0) (inl (omega (arith, there, place_of Whole (at + 1) x h.1), h.1))
                 | inr r6 ↦ elim (chosen (eqb kind 7) (Ok (Open, at + 1)) _ (Ok x) r6.1) [
                   | inl h ↦ rw (r1.0, r2.0, r3.0, r4.0, r5.0, r6.0, h.0) (inl (omega (arith, there, place_of Open (at + 1) x h.1), h.1))
-                  | inr r7 ↦ absurd (let no = r7.1 in cc)
+                  | inr r7 ↦ elim (chosen (eqb kind 8) (fix_at bytes at) _ (Ok x) r7.1) [
+                    | inl h ↦ rw (r1.0, r2.0, r3.0, r4.0, r5.0, r6.0, r7.0, h.0) (cut_fix bytes k at x kb h.1)
+                    | inr r8 ↦ absurd (let no = r8.1 in cc)
+                  ]
                 ]
               ]
             ]

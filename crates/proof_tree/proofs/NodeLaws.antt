@@ -1,17 +1,17 @@
 -- A node that is read is the node that was written, and what was written is read again.
 use Rattle.std.proofs.Common.{◌≡◌, ℕ, ◌+◌, ◌^◌, ◌<◌, ◌≤◌, ◌⊎◌, inl, inr, Bool, true, false, cond, ltb, leb, eqb, ◌||◌, List, [], ◌∷◌, Ok, refl, ap, subst, arith}
-use Rattle.std.specs.Int.{w16, to_be_bytes}
+use Rattle.std.specs.Int.{w16, w32, to_be_bytes}
 use Rattle.std.proofs.lemmas.Bool.{or_parts, or_from, ltb-false, leb-false, eqb-true, eqb-false, le-ltb, lt-leb, ne_eqb}
-use Rattle.exam_text.specs.First.{unless, fault_where}
+use Rattle.exam_text.specs.First.{◌>>=◌, unless, fault_where}
 use Rattle.exam_text.proofs.Firsts.{bind_ok, unless_ok, none_where, ok_is}
 use Rattle.certificate_model.specs.declared.node.Node.{Node}
-use Rattle.certificate_model.specs.declared.node.Node.TheVariants.{BranchItem, BranchStimulus, Bound, Ray, Count, Whole, Open}
+use Rattle.certificate_model.specs.declared.node.Node.TheVariants.{BranchItem, BranchStimulus, Bound, Ray, Count, Whole, Open, Fix}
 use Rattle.proof_tree.specs.declared.fault.TreeFault.{TreeFault}
 use Rattle.proof_tree.specs.declared.fault.TreeFault.TheVariants.{BadKind}
 use Rattle.proof_tree.specs.Shape.{IsNode}
 use Rattle.proof_tree.specs.Spelling.{node_bytes}
-use Rattle.proof_tree.specs.Reading.{number_at, byte_at, item_branch_at, stimulus_branch_at, bound_at, ray_at, count_at, node_of_kind, node_at}
-use Rattle.proof_tree.proofs.Fields.{IsBytes, Stands, stand_both, stand_first, stand_second, wide16, number_stands, number_again, byte_stands, byte_again}
+use Rattle.proof_tree.specs.Reading.{number_at, byte_at, item_branch_at, stimulus_branch_at, bound_at, ray_at, count_at, fix_at, node_of_kind, node_at}
+use Rattle.proof_tree.proofs.Fields.{IsBytes, Stands, stand_both, stand_first, stand_second, wide16, wide32, number_stands, number_again, byte_stands, byte_again}
 
 -- the bytes have the node that was read there, and its number is in its range
 abbrev pub Found : List ℕ → ℕ → Node × ℕ → Type 0
@@ -73,6 +73,19 @@ count_stands bytes at x fits kind e =
     let second = byte_stands bytes (at + 1) a.0 fits a.1 in
     subst (Found bytes at) (ok_is {F = TreeFault} (Count a.0, at + 2) x u.1) (kind_and_byte bytes at 5 a.0 kind second.0, few)
 
+fix_stands : (bytes : List ℕ) (at : ℕ) (x : Node × ℕ) → IsBytes bytes → Stands bytes at (8 ∷ []) (at + 1) → fix_at bytes at ≡ Ok x → Found bytes at x
+unfolding fix_at
+fix_stands bytes at x fits kind e =
+    let a = bind_ok (byte_at bytes (at + 1)) (λ v. number_at w32 bytes (at + 2) >>= λ goal. Ok (Fix v goal, at + 6)) x e in
+    let b = bind_ok (number_at w32 bytes (at + 2)) (λ goal. Ok (Fix a.0 goal, at + 6)) x a.2 in
+    let second = byte_stands bytes (at + 1) a.0 fits a.1 in
+    let front = kind_and_byte bytes at 8 a.0 kind second.0 in
+    let third = number_stands w32 (2 ^ 32) wide32 bytes (at + 2) b.0 fits b.1 in
+    let both = stand_both bytes at (8 ∷ a.0 ∷ []) (at + 2) (to_be_bytes w32 b.0) (at + 2 + 4) front third.0 in
+    let six : at + 2 + 4 ≡ at + 6 = omega arith in
+    let whole : Stands bytes at (8 ∷ a.0 ∷ to_be_bytes w32 b.0) (at + 6) = subst (λ (m : ℕ). Stands bytes at (8 ∷ a.0 ∷ to_be_bytes w32 b.0) m) six both in
+    subst (Found bytes at) (ok_is {F = TreeFault} (Fix a.0 b.0, at + 6) x b.2) (whole, (second.1, third.1))
+
 -- the kind is this one
 as_kind : (bytes : List ℕ) (at kind k : ℕ) → eqb kind k ≡ true → Stands bytes at (kind ∷ []) (at + 1) → Stands bytes at (k ∷ []) (at + 1)
 as_kind bytes at kind k test p = subst (λ (n : ℕ). Stands bytes at (n ∷ []) (at + 1)) (eqb-true kind k test) p
@@ -94,7 +107,10 @@ kind_stands bytes at kind x fits p e =
                 | inl h ↦ subst (Found bytes at) (ok_is {F = TreeFault} (Whole, at + 1) x h.1) (as_kind bytes at kind 6 h.0 p, tt)
                 | inr r6 ↦ elim (chosen (eqb kind 7) (Ok (Open, at + 1)) _ (Ok x) r6.1) [
                   | inl h ↦ subst (Found bytes at) (ok_is {F = TreeFault} (Open, at + 1) x h.1) (as_kind bytes at kind 7 h.0 p, tt)
-                  | inr r7 ↦ absurd (let no = r7.1 in cc)
+                  | inr r7 ↦ elim (chosen (eqb kind 8) (fix_at bytes at) _ (Ok x) r7.1) [
+                    | inl h ↦ fix_stands bytes at x fits (as_kind bytes at kind 8 h.0 p) h.1
+                    | inr r8 ↦ absurd (let no = r8.1 in cc)
+                  ]
                 ]
               ]
             ]
@@ -118,7 +134,7 @@ byte_behind : (bytes : List ℕ) (at kind n next : ℕ) → Stands bytes at (kin
 byte_behind bytes at kind n next p = byte_again bytes (at + 1) n next (stand_second bytes at (kind ∷ []) (n ∷ []) next p)
 
 pub node_again : (node : Node) (bytes : List ℕ) (at next : ℕ) → Stands bytes at (node_bytes node) next → IsNode node → node_at bytes at ≡ Ok (node, next)
-unfolding node_at node_of_kind item_branch_at stimulus_branch_at bound_at ray_at count_at
+unfolding node_at node_of_kind item_branch_at stimulus_branch_at bound_at ray_at count_at fix_at
 node_again (BranchItem i) bytes at next p is =
     let kind = kind_again bytes at 1 (to_be_bytes w16 i) next p in
     let second : Stands bytes (at + 1) (to_be_bytes w16 i) next = stand_second bytes at (1 ∷ []) (to_be_bytes w16 i) next p in
@@ -156,3 +172,11 @@ node_again Open bytes at next p is =
     let kind = kind_again bytes at 7 [] next p in
     let end : at + 1 ≡ next = omega (arith, p.ends) in
     rw kind (ap (λ (n : ℕ). Ok (Open, n)) end)
+node_again (Fix v goal) bytes at next p is =
+    let kind = kind_again bytes at 8 (v ∷ to_be_bytes w32 goal) next p in
+    let rest : Stands bytes (at + 1) (v ∷ to_be_bytes w32 goal) next = stand_second bytes at (8 ∷ []) (v ∷ to_be_bytes w32 goal) next p in
+    let vector : byte_at bytes (at + 1) ≡ Ok v = byte_again bytes (at + 1) v (at + 1 + 1) (stand_first bytes (at + 1) (v ∷ []) (to_be_bytes w32 goal) next rest) in
+    let last : Stands bytes (at + 2) (to_be_bytes w32 goal) next = subst (λ (m : ℕ). Stands bytes m (to_be_bytes w32 goal) next) (omega arith) (stand_second bytes (at + 1) (v ∷ []) (to_be_bytes w32 goal) next rest) in
+    let number : number_at w32 bytes (at + 2) ≡ Ok goal = number_again w32 (2 ^ 32) wide32 bytes (at + 2) goal next last (omega (arith, is.1)) in
+    let end : at + 6 ≡ next = omega (arith, p.ends) in
+    rw (kind, vector, number) (ap (λ (n : ℕ). Ok (Fix v goal, n)) end)

@@ -2,7 +2,7 @@
 use Rattle.std.proofs.Common.{◌≡◌, ℕ, zero, suc, ◌+◌, ◌-◌, ◌<◌, ◌≤◌, List, ◌∷◌, length, get_or, drop, sym, subst, arith, add-one, refl}
 use Rattle.std.proofs.Math.Seq.{drop-cons}
 use Rattle.certificate_model.specs.declared.node.Node.{Node}
-use Rattle.certificate_model.specs.declared.node.Node.TheVariants.{BranchItem, BranchStimulus, Bound, Ray, Count, Whole, Open}
+use Rattle.certificate_model.specs.declared.node.Node.TheVariants.{BranchItem, BranchStimulus, Bound, Ray, Count, Whole, Open, Fix}
 use Rattle.certificate_model.specs.ProofTrees.{AreTrees}
 use Rattle.proof_tree.specs.Shape.{children}
 
@@ -22,6 +22,7 @@ tree_step wait (Ray v) nodes = waits wait (suc wait - 1 + 0) nodes (omega arith)
 tree_step wait (Count r) nodes = waits wait (suc wait - 1 + 0) nodes (omega arith)
 tree_step wait Whole nodes = waits wait (suc wait - 1 + 0) nodes (omega arith)
 tree_step wait Open nodes = waits wait (suc wait - 1 + 0) nodes (omega arith)
+tree_step wait (Fix v goal) nodes = waits (suc wait) (suc wait - 1 + 1) nodes (omega arith)
 
 drop_here : (i : ℕ) (nodes : List Node) (d : Node) → i < length nodes → drop i nodes ≡ get_or nodes i d ∷ drop (i + 1) nodes
 drop_here i nodes d lt = rw (add-one, drop-cons nodes i d lt) refl
@@ -46,3 +47,4 @@ few_children (Ray v) = omega arith
 few_children (Count r) = omega arith
 few_children Whole = omega arith
 few_children Open = omega arith
+few_children (Fix v goal) = omega arith

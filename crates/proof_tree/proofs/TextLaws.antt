@@ -7,7 +7,7 @@ use Rattle.std.proofs.lemmas.List.Elements.{recursion_from_All}
 use Rattle.hex.specs.Hex.{IsBytes, encode_lower, decode_of}
 use Rattle.hex.proofs.HexLemmas.{decode_of-encode_lower}
 use Rattle.certificate_model.specs.declared.node.Node.{Node}
-use Rattle.certificate_model.specs.declared.node.Node.TheVariants.{BranchItem, BranchStimulus, Bound, Ray, Count, Whole, Open}
+use Rattle.certificate_model.specs.declared.node.Node.TheVariants.{BranchItem, BranchStimulus, Bound, Ray, Count, Whole, Open, Fix}
 use Rattle.certificate_model.specs.Relaxed.{Multipliers}
 use Rattle.certificate_model.specs.ProofTrees.{ProofTree}
 use Rattle.proof_tree.specs.Shape.{IsTree, IsNode}
@@ -53,6 +53,7 @@ node_is (Ray v) n = cons 4 (v ∷ []) (omega arith) (cons v [] n none)
 node_is (Count r) n = cons 5 (r ∷ []) (omega arith) (cons r [] (omega (arith, n)) none)
 node_is Whole n = cons 6 [] (omega arith) none
 node_is Open n = cons 7 [] (omega arith) none
+node_is (Fix v goal) n = cons 8 (v ∷ to_be_bytes w32 goal) (omega arith) (cons v (to_be_bytes w32 goal) n.0 (four goal))
 
 nodes_are : (nodes : List Node) → AllByRecursion IsNode nodes → IsBytes (flat_map node_bytes nodes)
 nodes_are [] h = none

@@ -11,7 +11,7 @@ use Rattle.std.proofs.lemmas.List.Elements.{All-from_recursion, All-from_get_or,
 use Rattle.exam_text.specs.First.{◌>>=◌, Gives}
 use Rattle.exam_text.proofs.Firsts.{bind_ok, ok_is}
 use Rattle.certificate_model.specs.declared.node.Node.{Node}
-use Rattle.certificate_model.specs.declared.node.Node.TheVariants.{BranchItem, BranchStimulus, Bound, Ray, Count, Whole, Open}
+use Rattle.certificate_model.specs.declared.node.Node.TheVariants.{BranchItem, BranchStimulus, Bound, Ray, Count, Whole, Open, Fix}
 use Rattle.certificate_model.specs.Relaxed.{Multipliers}
 use Rattle.certificate_model.specs.ProofTrees.{ProofTree, AreTrees, IsProofTree}
 use Rattle.proof_tree.specs.declared.fault.TreeFault.{TreeFault}
@@ -30,6 +30,7 @@ use Rattle.proof_tree.proofs.NodeLaws.{node_stands, node_again}
 waits_for : (waiting : ℕ) (node : Node) (nodes : List Node) → BothWays (AreTrees (suc waiting) (node ∷ nodes)) (AreTrees (waiting + children node) nodes)
 waits_for waiting (BranchItem i) nodes = let e : suc (suc waiting) ≡ waiting + 2 = omega arith in (subst (λ (w : ℕ). AreTrees w nodes) e, subst (λ (w : ℕ). AreTrees w nodes) (sym e))
 waits_for waiting (BranchStimulus s) nodes = let e : suc (suc waiting) ≡ waiting + 2 = omega arith in (subst (λ (w : ℕ). AreTrees w nodes) e, subst (λ (w : ℕ). AreTrees w nodes) (sym e))
+waits_for waiting (Fix v goal) nodes = let e : suc waiting ≡ waiting + 1 = omega arith in (subst (λ (w : ℕ). AreTrees w nodes) e, subst (λ (w : ℕ). AreTrees w nodes) (sym e))
 waits_for waiting (Bound v) nodes = let e : waiting ≡ waiting + 0 = omega arith in (subst (λ (w : ℕ). AreTrees w nodes) e, subst (λ (w : ℕ). AreTrees w nodes) (sym e))
 waits_for waiting (Ray v) nodes = let e : waiting ≡ waiting + 0 = omega arith in (subst (λ (w : ℕ). AreTrees w nodes) e, subst (λ (w : ℕ). AreTrees w nodes) (sym e))
 waits_for waiting (Count r) nodes = let e : waiting ≡ waiting + 0 = omega arith in (subst (λ (w : ℕ). AreTrees w nodes) e, subst (λ (w : ℕ). AreTrees w nodes) (sym e))
@@ -84,6 +85,7 @@ some_bytes (Ray v) = omega arith
 some_bytes (Count r) = omega arith
 some_bytes Whole = omega arith
 some_bytes Open = omega arith
+some_bytes (Fix v goal) = omega arith
 
 pub nodes_again : (nodes : List Node) (room waiting : ℕ) (bytes : List ℕ) (at next : ℕ) → Stands bytes at (flat_map node_bytes nodes) next → AreTrees waiting nodes → length nodes ≤ room → AllByRecursion IsNode nodes
     → nodes_at room waiting bytes at ≡ Ok (nodes, next)
@@ -187,7 +189,7 @@ vectors_len [] = refl
 vectors_len (v ∷ vs) =
     omega (arith, vectors_len vs, pairs_len v, sum_by-cons length v vs, ap length (flat_map-cons vector_bytes v vs), length-append (vector_bytes v) (flat_map vector_bytes vs))
 
-node_len : (node : Node) → length (node_bytes node) ≤ 3
+node_len : (node : Node) → length (node_bytes node) ≤ 6
 node_len (BranchItem i) = omega arith
 node_len (BranchStimulus s) = omega arith
 node_len (Bound v) = omega arith
@@ -195,12 +197,13 @@ node_len (Ray v) = omega arith
 node_len (Count r) = omega arith
 node_len Whole = omega arith
 node_len Open = omega arith
+node_len (Fix v goal) = omega arith
 
-nodes_len : (nodes : List Node) → length (flat_map node_bytes nodes) ≤ 3 * length nodes
+nodes_len : (nodes : List Node) → length (flat_map node_bytes nodes) ≤ 6 * length nodes
 nodes_len [] = omega arith
 nodes_len (node ∷ nodes) = omega (arith, nodes_len nodes, node_len node, ap length (flat_map-cons node_bytes node nodes), length-append (node_bytes node) (flat_map node_bytes nodes))
 
-pub few_bytes : (T : ProofTree) → IsTree T → length (bytes_of T) ≤ 86524
+pub few_bytes : (T : ProofTree) → IsTree T → length (bytes_of T) ≤ 98809
 unfolding bytes_of
 few_bytes T is =
     let vectors = vectors_len T.vectors in

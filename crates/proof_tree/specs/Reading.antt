@@ -4,7 +4,7 @@ use Rattle.std.specs.Prelude.{ℕ, zero, suc, ◌+◌, ◌-◌, ◌||◌, ◌==�
 use Rattle.std.specs.Int.{Width, w16, w32, byte_len, from_be_bytes}
 use Rattle.exam_text.specs.First.{◌>>=◌, unless, fault_where}
 use Rattle.certificate_model.specs.declared.node.Node.{Node}
-use Rattle.certificate_model.specs.declared.node.Node.TheVariants.{BranchItem, BranchStimulus, Bound, Ray, Count, Whole, Open}
+use Rattle.certificate_model.specs.declared.node.Node.TheVariants.{BranchItem, BranchStimulus, Bound, Ray, Count, Whole, Open, Fix}
 use Rattle.certificate_model.specs.Relaxed.{Multipliers}
 use Rattle.certificate_model.specs.ProofTrees.{ProofTree}
 use Rattle.proof_tree.specs.declared.fault.TreeFault.{TreeFault}
@@ -79,6 +79,12 @@ count_at bytes at = do
   row ← byte_at bytes (at + 1)
   unless (fault_where (nat_lt 192 row) (BadKind at)) (Ok (Count row, at + 2))
 
+unfoldable pub fix_at : List ℕ → ℕ → Result (Node × ℕ) TreeFault
+fix_at bytes at = do
+  vector ← byte_at bytes (at + 1)
+  goal ← number_at w32 bytes (at + 2)
+  Ok (Fix vector goal, at + 6)
+
 -- what follows the kind of a node
 unfoldable pub node_of_kind : ℕ → List ℕ → ℕ → Result (Node × ℕ) TreeFault
 node_of_kind kind bytes at =
@@ -88,7 +94,8 @@ node_of_kind kind bytes at =
     (if kind == 4 then ray_at bytes at else
     (if kind == 5 then count_at bytes at else
     (if kind == 6 then Ok (Whole, at + 1) else
-    (if kind == 7 then Ok (Open, at + 1) else Err (BadKind at)))))))
+    (if kind == 7 then Ok (Open, at + 1) else
+    (if kind == 8 then fix_at bytes at else Err (BadKind at))))))))
 
 unfoldable pub node_at : List ℕ → ℕ → Result (Node × ℕ) TreeFault
 node_at bytes at = do

@@ -7,7 +7,7 @@ ghost use Rattle.certificate_model.specs.ProofTrees.{ProofTree};
 ghost use Rattle.proof_tree.specs.Shape.{IsTree};
 ghost use Rattle.proof_tree.specs.Spelling.{bytes_of, BeginsWith};
 ghost use Rattle.proof_tree.specs.declared.fault.TreeFault.TheVariants.{Memory};
-ghost use Rattle.proof_tree.specs.Reading.{number_at, byte_at, pair_at, pairs_at, multipliers_at, vectors_at, item_branch_at, stimulus_branch_at, bound_at, ray_at, count_at, node_of_kind, node_at, nodes_at, read};
+ghost use Rattle.proof_tree.specs.Reading.{number_at, byte_at, pair_at, pairs_at, multipliers_at, vectors_at, item_branch_at, stimulus_branch_at, bound_at, ray_at, count_at, fix_at, node_of_kind, node_at, nodes_at, read};
 
 use crate::fault::TreeFault;
 use crate::tree::{Tree, children};
@@ -131,6 +131,17 @@ fn count(bytes: &[u8], at: usize) -> Result<(Node, usize), TreeFault>
     Ok((Node::Count(row), at + 2))
 }
 
+#[tactic(auto, unfolding(crate::specs::Reading::fix_at))]
+fn fix(bytes: &[u8], at: usize) -> Result<(Node, usize), TreeFault>
+    requires { at < length bytes.now }
+    ensures node { result ≡ fix_at bytes.now at }
+    ensures there { IfOk result (λ node. node.1 ≤ length bytes.now) }
+{
+    let vector = byte_of(bytes, at + 1)?;
+    let goal = u32_of(bytes, at + 2)?;
+    Ok((Node::Fix(vector, goal), at + 6))
+}
+
 #[tactic(auto, unfolding(crate::specs::Reading::node_of_kind))]
 fn node_of_kind(kind: u8, bytes: &[u8], at: usize) -> Result<(Node, usize), TreeFault>
     requires { at < length bytes.now }
@@ -145,6 +156,7 @@ fn node_of_kind(kind: u8, bytes: &[u8], at: usize) -> Result<(Node, usize), Tree
         5 => count(bytes, at),
         6 => Ok((Node::Whole, at + 1)),
         7 => Ok((Node::Open, at + 1)),
+        8 => fix(bytes, at),
         _ => Err(TreeFault::BadKind(at as u64)),
     }
 }

@@ -5,12 +5,12 @@ ghost use Rattle.certificate_model.specs.Spending.{open_leaves, IsBranch};
 
 use certificate_model::Node;
 
-/// Whether a node is a branch, which has two subtrees after it.
+/// Whether a node has subtrees after it: two after a branch, one after a `Fix`.
 pub fn is_branch(node: &Node) -> bool
     ensures { IsTrue result ↔ IsBranch node.now }
 {
     match node {
-        Node::BranchItem(_) | Node::BranchStimulus(_) => true,
+        Node::BranchItem(_) | Node::BranchStimulus(_) | Node::Fix(_, _) => true,
         Node::Bound(_) | Node::Ray(_) | Node::Count(_) | Node::Whole | Node::Open => false,
     }
 }

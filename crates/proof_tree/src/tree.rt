@@ -94,6 +94,7 @@ pub(crate) fn children(node: &Node) -> usize
 {
     match node {
         Node::BranchItem(_) | Node::BranchStimulus(_) => 2,
+        Node::Fix(_, _) => 1,
         Node::Bound(_) | Node::Ray(_) | Node::Count(_) | Node::Whole | Node::Open => 0,
     }
 }
@@ -118,6 +119,7 @@ fn is_node(node: &Node) -> bool
         Node::BranchItem(item) => *item < 512,
         Node::BranchStimulus(stimulus) => 0 < *stimulus && *stimulus <= 64,
         Node::Bound(vector) | Node::Ray(vector) => u16::from(*vector) < 256,
+        Node::Fix(vector, goal) => u16::from(*vector) < 256 && u64::from(*goal) < 4_294_967_296,
         Node::Count(row) => *row <= 192,
         Node::Whole | Node::Open => true,
     }

@@ -52,6 +52,10 @@ fn push_node(out: &mut Vec<u8>, node: &Node) -> Result<(), AllocError>
         Node::Count(row) => out.extend_from_slice(&[5, *row]),
         Node::Whole => out.extend_from_slice(&[6]),
         Node::Open => out.extend_from_slice(&[7]),
+        Node::Fix(vector, goal) => {
+            out.extend_from_slice(&[8, *vector])?;
+            out.extend_from_slice(&goal.to_be_bytes())
+        }
     }
 }
 
@@ -68,7 +72,7 @@ fn push_nodes(out: &mut Vec<u8>, nodes: &[Node]) -> Result<(), AllocError>
 #[tactic(auto, unfolding(crate::specs::Spelling::bytes_of))]
 pub fn encode(alloc: Global, tree: &Tree) -> Result<Vec<u8>, AllocError>
     ensures spelling { IfOk result (λ bytes. bytes.items ≡ bytes_of tree.now) }
-    ensures few { IfOk result (λ bytes. length bytes.items ≤ 86524) }
+    ensures few { IfOk result (λ bytes. length bytes.items ≤ 98809) }
 {
     let vectors = tree.vectors();
     let mut out = Vec::new(alloc);

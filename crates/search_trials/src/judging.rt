@@ -233,6 +233,59 @@ const VERDICTS: [Trial; 14] = [
     ),
 ];
 
+/// Trees that fix items by the high side of the enemies at 1 and a cap of 1,791, the weight of item
+/// 5. The margins are -511, 257, 512, -255, -767 and 0, and the bound is 1 + 3 * 1,791 + 257 + 512,
+///    which is 256 * 23 + 255.
+const FIXES: [Trial; 6] = [
+    // Goal 23 leaves no room: all items are out, and the length is impossible.
+    (
+        PLAIN,
+        &[
+            1, 0, 2, 0, 3, 0, 0, 0, 1, 1, 0x80, 0, 0, 6, 0xff, 8, 0, 0, 0, 0, 23, 5, 0,
+        ],
+        Question::Verdict(BEST, Verdict::Optimal),
+    ),
+    // Goal 22 leaves 256: items 1 and 2 are in, 0 and 4 out. With item 5 the enemies meet, and
+    // without it one set is left.
+    (
+        PLAIN,
+        &[
+            1, 0, 2, 0, 3, 0, 0, 0, 1, 1, 0x80, 0, 0, 6, 0xff, 8, 0, 0, 0, 0, 22, 1, 0, 5, 5, 2, 6,
+        ],
+        Question::Verdict(BEST, Verdict::Optimal),
+    ),
+    // Item 0 is settled.
+    (
+        PLAIN,
+        &[
+            1, 0, 2, 0, 3, 0, 0, 0, 1, 1, 0x80, 0, 0, 6, 0xff, 8, 0, 0, 0, 0, 22, 1, 0, 0, 7, 7,
+        ],
+        Question::Verdict(BEST, Verdict::Bad(1, Reason::Determined)),
+    ),
+    // The form does not reach 24.
+    (
+        PLAIN,
+        &[
+            1, 0, 2, 0, 3, 0, 0, 0, 1, 1, 0x80, 0, 0, 6, 0xff, 8, 0, 0, 0, 0, 24, 5, 0,
+        ],
+        Question::Verdict(BEST, Verdict::Bad(0, Reason::NotClosed)),
+    ),
+    // There is no vector 1.
+    (
+        PLAIN,
+        &[
+            1, 0, 2, 0, 3, 0, 0, 0, 1, 1, 0x80, 0, 0, 6, 0xff, 8, 1, 0, 0, 0, 23, 5, 0,
+        ],
+        Question::Verdict(BEST, Verdict::Bad(0, Reason::NoVector)),
+    ),
+    // Without the cap the bound is the sum of all weights, and nothing is settled.
+    (
+        PLAIN,
+        &[1, 0, 1, 0, 3, 0, 0, 0, 1, 8, 0, 0, 0, 0, 23, 6],
+        Question::Verdict(BEST, Verdict::Bad(0, Reason::FixesNothing)),
+    ),
+];
+
 const NO_FORM: [Trial; 2] = [
     // The ray gives 15 - 20.
     (
@@ -298,6 +351,7 @@ const SPENT: [Trial; 12] = [
 fn verdicts(rt: HostRuntime) {
     expect_trials(&rt, rt.alloc(), &CAPPED);
     expect_trials(&rt, rt.alloc(), &VERDICTS);
+    expect_trials(&rt, rt.alloc(), &FIXES);
     expect_trials(&rt, rt.alloc(), &NO_FORM);
 }
 

@@ -7,10 +7,10 @@ use std::alloc::Global;
 use std::process::Abort;
 
 /// Bytes of no tree, each with its fault.
-const NO_TREES: [(&[u8], TreeFault); 25] = [
+const NO_TREES: [(&[u8], TreeFault); 28] = [
     (&[], TreeFault::Short),
     (&[0], TreeFault::Unfinished(1)),
-    (&[0, 8], TreeFault::BadKind(1)),
+    (&[0, 9], TreeFault::BadKind(1)),
     (&[0, 0], TreeFault::BadKind(1)),
     (&[0, 1, 0], TreeFault::Short),
     (&[1], TreeFault::Short),
@@ -36,6 +36,10 @@ const NO_TREES: [(&[u8], TreeFault); 25] = [
         &[1, 0, 2, 0, 1, 0, 0, 0, 1, 0, 0, 0, 0, 0, 1, 7],
         TreeFault::BadVector(9),
     ),
+    // A fix without its vector, one whose goal is cut off, and one with nothing below it.
+    (&[0, 8], TreeFault::Short),
+    (&[0, 8, 0, 0, 0, 0], TreeFault::Short),
+    (&[0, 8, 0, 0, 0, 0, 1], TreeFault::Unfinished(7)),
     // Item 512, stimuli 0 and 65, row 193.
     (&[0, 1, 2, 0], TreeFault::BadKind(1)),
     (&[0, 2, 0], TreeFault::BadKind(1)),

@@ -163,6 +163,8 @@ def greatest_bound(problem, vectors, nodes):
         path = waiting.pop()
         if kind in (check_tree.ITEM, check_tree.STIMULUS):
             waiting.extend(reversed(check_tree.below(problem, path, kind, value)))
+        if kind == check_tree.FIX:
+            waiting.append(check_tree.below_fix(problem, path, reduced[value[0] + 1], value[1]))
         if kind == check_tree.OPEN:
             maxima = [check_tree.maximum(problem, path, one) for one in reduced]
             if any(one is None for one in maxima):

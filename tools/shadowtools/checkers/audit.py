@@ -359,7 +359,7 @@ class Judge:
     def tree(self, at, problem, form, wanted, tree):
         """Checks a tree against what the entry claims: `Optimal` or `NoForm`, or `Partial` with a spent budget."""
         said = check_tree.verdict(problem, form, *tree)
-        spent = check_tree.spent(problem, tree[1], self.history.rules.budget)
+        spent = check_tree.spent(problem, tree[0], tree[1], self.history.rules.budget)
         self.note(at, len(tree[1]), said, spent)
         if not (said == wanted or wanted == "Partial" and said.startswith("Partial") and spent):
             raise Refused(f"journal: bad tree at {at}")

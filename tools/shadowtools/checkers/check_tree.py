@@ -168,13 +168,13 @@ def read_tree(data: bytes) -> Tuple[Vectors, Nodes, int]:
         if len(nodes) == 4095:
             raise Fault("TooLong %d" % at)
         kind = number(1)
-        if kind not in (1, 2, 3, 4, 5, 6, 7):
+        if kind not in (1, 2, 3, 4, 5, 6, 7, 8):
             raise Fault("BadKind %d" % begin)
-        value = number(2) if kind == 1 else number(1) if kind < 6 else None
+        value = number(2) if kind == 1 else number(1) if kind < 6 else (number(1), number(4)) if kind == FIX else None
         if kind == 1 and value > 511 or kind == 2 and not 1 <= value <= 64 or kind == 5 and value > 192:
             raise Fault("BadKind %d" % begin)
         nodes.append((kind, value))
-        waiting += 1 if kind < 3 else -1
+        waiting += 1 if kind < 3 else 0 if kind == FIX else -1
     return vectors, nodes, at
 
 
@@ -190,10 +190,12 @@ def write_tree(vectors: Vectors, nodes: Nodes) -> bytes:
             out += value.to_bytes(2, "big")
         elif kind < 6:
             out += bytes([value])
+        elif kind == FIX:
+            out += bytes([value[0]]) + value[1].to_bytes(4, "big")
     return out
 
 
-ITEM, STIMULUS, BOUND, RAY, COUNT, WHOLE, OPEN = 1, 2, 3, 4, 5, 6, 7
+ITEM, STIMULUS, BOUND, RAY, COUNT, WHOLE, OPEN, FIX = 1, 2, 3, 4, 5, 6, 7, 8
 
 # ---------------------------------------------------------------- paths
 
@@ -325,6 +327,47 @@ def last_set(P, p):
     return None
 
 
+def fixed(P: Problem, p: Path, r: Reduced, goal: int) -> Tuple[Set[int], Set[int], Set[int]]:
+    """The items out, the items taken and the stimuli chosen: a form on the path that is better than the goal has it so."""
+    threshold, may, sure = r.cap or 0, opened(P, p), chosen(P, p)
+    over = {i: r.weight[i] - threshold for i in p.free}
+    value = {s: r.stimulus[s] + sum(max(0, over[i]) for i in p.free if P.bank.items[i].stimulus == s) for s in may}
+    bound = (r.constant + sum(r.weight[i] for i in p.taken) + threshold * max(0, P.plan.length - len(p.taken))
+             + sum(max(0, over[i]) for i in p.free if P.bank.items[i].stimulus not in may)
+             + sum(r.stimulus[s] for s in sure) + sum(max(0, v) for v in value.values()))
+    room = bound - (256 * goal + 255)
+    out, taken = set(), set()
+    for i in p.free:
+        s = P.bank.items[i].stimulus
+        closed = max(0, -value[s]) if s in may else 0
+        if closed + max(0, -over[i]) >= room:
+            out.add(i)
+        elif max(0, over[i]) >= room and (s not in may or value[s] >= room):
+            taken.add(i)
+    kept = {s for s in may if max(0, -value[s]) < room and max(0, value[s]) >= room}
+    for s in may:
+        of = {i for i in p.free if P.bank.items[i].stimulus == s}
+        if len(of - out) < P.plan.bounds[s - 1][0]:
+            out, taken, kept = out | of, taken - of, kept - {s}
+    return out, taken, kept
+
+
+def names_only_sides(P: Problem, vector: Dict[int, int]) -> bool:
+    return all(side < 2 * len(P.plan.rows) + 2 * P.bank.stimuli or side in (LOW_CAP, HIGH_CAP) for side in vector)
+
+
+def settles(P: Problem, vectors: Vectors, p: Path, number: int, goal: int) -> bool:
+    """Whether the tree has the vector, it names only sides, and it settles something for the goal."""
+    if number >= len(vectors) or not names_only_sides(P, vectors[number]):
+        return False
+    return any(fixed(P, p, reduced(P, vectors[number], False), goal))
+
+
+def below_fix(P: Problem, p: Path, r: Reduced, goal: int) -> Path:
+    out, taken, kept = fixed(P, p, r, goal)
+    return Path(p.taken | taken, p.free - out - taken, p.branched | kept)
+
+
 # ---------------------------------------------------------------- the verdict
 
 def reason(P, X, vectors, p, kind, value, known=None):
@@ -334,13 +377,18 @@ def reason(P, X, vectors, p, kind, value, known=None):
         return None if value in p.free else "Determined"
     if kind == STIMULUS:
         return None if value in opened(P, p) else "Determined"
-    if kind in (BOUND, RAY):
+    if kind in (BOUND, RAY, FIX):
+        value, goal = value if kind == FIX else (value, None)
         if value >= len(vectors):
             return "NoVector"
-        if any(side >= 2 * len(P.plan.rows) + 2 * P.bank.stimuli and side not in (LOW_CAP, HIGH_CAP) for side in vectors[value]):
+        if not names_only_sides(P, vectors[value]):
             return "NoSide"
         if (kind, value) not in known:
             known[kind, value] = reduced(P, vectors[value], kind == RAY)
+        if kind == FIX:
+            if X is None or goal > objective(P, X):
+                return "NotClosed"
+            return None if any(fixed(P, p, known[kind, value], goal)) else "FixesNothing"
         r = maximum(P, p, known[kind, value])
         if kind == RAY:
             return None if r is not None and r < 0 else "NotNegative"
@@ -367,17 +415,19 @@ def verdict(P: Problem, X: Optional[FrozenSet[int]], vectors: Vectors, nodes: No
             return "Bad %d %s" % (number, why)
         if kind in (ITEM, STIMULUS):
             waiting.extend(reversed(below(P, p, kind, value)))
+        if kind == FIX:
+            waiting.append(below_fix(P, p, known[kind, value[0]], value[1]))
         open_leaves += kind == OPEN
     if open_leaves:
         return "Partial %d" % open_leaves
     return "NoForm" if X is None else "Optimal"
 
 
-def spent(P: Problem, nodes: Nodes, budget: int) -> bool:
+def spent(P: Problem, vectors: Vectors, nodes: Nodes, budget: int) -> bool:
     kinds = [kind for kind, _ in nodes]
     if len(nodes) != budget or OPEN not in kinds:
         return False
-    if any(kind in (ITEM, STIMULUS) for kind in kinds[kinds.index(OPEN):]):
+    if any(kind in (ITEM, STIMULUS, FIX) for kind in kinds[kinds.index(OPEN):]):
         return False
     start = P.start if P.start is not None and is_form(P, P.start) else None
     plain = reduced(P, {}, False)
@@ -388,7 +438,11 @@ def spent(P: Problem, nodes: Nodes, budget: int) -> bool:
             if reason(P, None, [], p, kind, value):
                 return False
             waiting.extend(reversed(below(P, p, kind, value)))
-        if kind in (ITEM, STIMULUS, OPEN):
+        if kind == FIX:
+            if not settles(P, vectors, p, *value):
+                return False
+            waiting.append(below_fix(P, p, reduced(P, vectors[value[0]], False), value[1]))
+        if kind in (ITEM, STIMULUS, OPEN, FIX):
             if some_impossible(P, p):
                 return False
             if start is not None and not maximum(P, p, plain) > 256 * objective(P, start) + 255:
@@ -470,6 +524,12 @@ def search(rng, P, X, vectors, p, nodes):
     if rng.random() < 0.02 and reason(P, X, vectors, p, OPEN, None) is None:
         nodes.append((OPEN, None))
         return
+    if X is not None and vectors and rng.random() < 0.5:
+        value = rng.randrange(len(vectors)), max(0, objective(P, X) - rng.choice((0, 0, 0, 1)))
+        if reason(P, X, vectors, p, FIX, value) is None:
+            nodes.append((FIX, value))
+            search(rng, P, X, vectors, below_fix(P, p, reduced(P, vectors[value[0]], False), value[1]), nodes)
+            return
     branches = [(ITEM, i) for i in p.free] + [(STIMULUS, s) for s in opened(P, p)]
     kind, value = rng.choice(branches)
     nodes.append((kind, value))
@@ -567,7 +627,7 @@ def main(words: Sequence[str]) -> int:
     said = verdict(P, X, vectors, nodes)
     print(said)
     if "--spent" in options:
-        print("spent", "true" if spent(P, nodes, word_of("--spent", options["--spent"], int)) else "false")
+        print("spent", "true" if spent(P, vectors, nodes, word_of("--spent", options["--spent"], int)) else "false")
     if "--brute" in options:
         free = len(bank.items) - len(P.given) - len(P.barred)
         if math.comb(free, max(0, plan.length - len(P.given))) > 2000000:

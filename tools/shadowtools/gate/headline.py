@@ -22,7 +22,7 @@ from shadowtools.places import TOP
 PAGE = os.path.join(TOP, "docs", "HEADLINE.md")
 HEAD = os.path.join(os.path.dirname(os.path.abspath(__file__)), "headline_page.md")
 SENTENCES = os.path.join(os.path.dirname(os.path.abspath(__file__)), "headline_sentences.txt")
-MOST = 1249
+MOST = 1276
 WIDTH = 120
 
 

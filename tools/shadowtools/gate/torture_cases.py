@@ -179,7 +179,7 @@ class Exam:
         demand(status in (0, 11, 12), f"assemble: status {status}")
         hexadecimal, budget = words[-1][-1], self.plan.lines[b"base-budget"][0]
         tree = check_tree.read_tree(bytes.fromhex(hexadecimal))
-        spends, form = check_tree.spent(self.problem, tree[1], budget), None
+        spends, form = check_tree.spent(self.problem, tree[0], tree[1], budget), None
         if status == 0:
             form, mark = frozenset(map(int, words[0][1:])), words[1][2]
             value, nodes = check_tree.objective(self.problem, form), len(tree[1])

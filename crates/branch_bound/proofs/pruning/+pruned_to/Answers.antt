@@ -6,7 +6,7 @@ use Rattle.certificate_model.specs.ProofTrees.{AreTrees}
 use Rattle.constraint_model.specs.Views.{problem_of}
 use Rattle.certificate_check.proofs.WalkSteps.{read_here, begins_within}
 use Rattle.branch_bound.specs.Searches.{side_of}
-use Rattle.branch_bound.proofs.LeafLaws.{two_sides, is_branch}
+use Rattle.branch_bound.proofs.LeafLaws.{two_sides}
 use Rattle.branch_bound.proofs.PruneLaws.{count_where, branch_makes, leaf_prunes, branch_pruning}
 use Rattle.branch_bound.proofs.pruning.+pruned_to.Goals as goal
 
@@ -24,7 +24,7 @@ pruned_to-requires t c =
     let wait = c.requires.tree.0 in
     let within : at < length T.nodes = begins_within T.nodes at wait c.requires.tree.1 in
     let here : drop at T.nodes ≡ node ∷ drop (at + 1) T.nodes = read_here c.nodes.result.now T.nodes at (BranchItem 0) node c.nodes.ensures.nodes refl within in
-    (omega arith, (c.requires.well_made, (c.side-left.ensures.cut, (suc wait, branch_makes node (drop (at + 1) T.nodes) wait (c.is_branch.ensures.0 c.if-not-is_branch.false) (rw here at c.requires.tree.1)))))
+    (omega arith, (c.requires.well_made, (c.side-left.ensures.cut, (suc wait, branch_makes (problem_of c.args.problem.now) c.requires.cut.path node (drop (at + 1) T.nodes) wait ((c.is_branch_on.ensures c.requires.cut.path c.requires.cut.is).0 c.if-not-is_branch_on.false) (rw here at c.requires.tree.1)))))
 
 pub pruned_to-requires-2 : goal.pruned_to-requires-2
 pruned_to-requires-2 t c =
@@ -36,7 +36,7 @@ pruned_to-requires-2 t c =
     let within : at < length T.nodes = begins_within T.nodes at wait c.requires.tree.1 in
     let here : drop at T.nodes ≡ node ∷ drop (at + 1) T.nodes = read_here c.nodes.result.now T.nodes at (BranchItem 0) node c.nodes.ensures.nodes refl within in
     let cut = c.requires.cut in
-    let makes : AreTrees (suc (suc wait)) (drop (at + 1) T.nodes) = branch_makes node (drop (at + 1) T.nodes) wait (c.is_branch.ensures.0 c.if-not-is_branch.false) (rw here at c.requires.tree.1) in
+    let makes : AreTrees (suc (suc wait)) (drop (at + 1) T.nodes) = branch_makes (problem_of c.args.problem.now) c.requires.cut.path node (drop (at + 1) T.nodes) wait ((c.is_branch_on.ensures c.requires.cut.path c.requires.cut.is).0 c.if-not-is_branch_on.false) (rw here at c.requires.tree.1) in
     let first = c.in_ok-next.ensures (side_of P cut.path node true) (c.side-left.ensures.paths cut.path cut.is) in
     let on = first.on in
     (omega arith, (c.requires.well_made, (c.side-right.ensures.cut, (wait, first.makes (suc wait) makes))))
@@ -54,7 +54,7 @@ returns t c = λ p is.
     let branch = (c.is_branch_on.ensures p is).0 c.if-not-is_branch_on.false in
     let first = c.in_ok-next.ensures (side_of P p node true) (c.side-left.ensures.paths p is) in
     let second = c.pruned_to-2.ensures (side_of P p node false) (c.side-right.ensures.paths p is) in
-    branch_pruning P T at p node here counted (side_of P p node true) (side_of P p node false) c.in_ok-next.next c.pruned_to-2.result (two_sides P p node branch) (is_branch P p node branch) first second
+    branch_pruning P T at p node here counted (side_of P p node true) (side_of P p node false) c.in_ok-next.next c.pruned_to-2.result (two_sides P p T node branch) branch first second
 
 pub returns-then-not-is_branch : goal.returns-then-not-is_branch
 returns-then-not-is_branch t c = λ p is.
