@@ -10,7 +10,7 @@ mod weights;
 mod words;
 
 /// The version of the program.
-pub const VERSION: &str = "0.13.0";
+pub const VERSION: &str = "0.14.0";
 
 pub use command::Command;
 pub use weights::weights_of;
