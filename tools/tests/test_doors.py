@@ -1,4 +1,5 @@
 """The doors of the built program: clients that dawdle, messages in parts, the queue of the listener, the end that is asked for, silent connections at `follow`."""
+import contextlib
 import http.client
 import json
 import os
@@ -251,6 +252,34 @@ class End(Doors):
         self.assertIn("shadowd: asked to end\n", lines)
         self.assertIn(f" {FLIGHT} sessions at the end\n", lines)
         self.assertFalse(os.path.exists(self.end))
+
+    def test_clients_that_send_without_a_pause(self):
+        """Each sends its next messages before it has the responses, until its connection ends, so that each worker has a message at each moment."""
+        server, port = self.serve(SHADOWD_END=self.end, SHADOWD_WORKERS="2")
+        got = []
+
+        def send(one):
+            with contextlib.suppress(OSError):
+                while True:
+                    one.sendall(HEALTH * 64)
+
+        def read(one):
+            count = 0
+            with contextlib.suppress(OSError):
+                while piece := one.recv(65536):
+                    count += piece.count(b"HTTP/1.1 200 ")
+            got.append(count)
+
+        clients = [self.connected(port) for _ in range(8)]
+        threads = [threading.Thread(target=part, args=(one,)) for one in clients for part in (send, read)]
+        for one in threads:
+            one.start()
+        self.assertEqual(self.asked(port, "GET", "/health")[0], 200)
+        self.assertEqual(self.ask_for_end(), (0, "ended\n"))
+        for one in threads:
+            one.join(LIMIT)
+        self.assertEqual((server.wait(LIMIT), len(got)), (0, len(clients)))
+        self.assertGreater(min(got), 64)
 
     def asked_within_a_message(self):
         """A server that is asked to end, a connection with a part of a message, and the thread that waits for the end."""

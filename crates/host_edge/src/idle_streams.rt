@@ -89,6 +89,22 @@ fn place_of(idle: &[IdleStream], token: usize) -> Option<usize> {
     idle.binary_search_by(|one| one.token.cmp(&token)).ok()
 }
 
+// Whether so many milliseconds have passed, if any.
+fn is_past(passed: Option<Duration>, limit: u64) -> bool {
+    passed.is_some_and(|passed| Duration::from_millis(limit) <= passed)
+}
+
+/// What a door has next.
+#[derive(Drop)]
+enum MessageOrEnd {
+    /// A connection that has a message as a whole.
+    Message(Gathered),
+    /// Neither a message nor the end.
+    Neither,
+    /// The end that is asked for is reached.
+    End,
+}
+
 /// The connections of one door that no worker serves, in the order in which the door got them. It
 /// gathers what their clients send, and sends what their clients have not taken yet, and waits for
 /// all of them and for the door's listener together. It gives a connection once that has a message
@@ -371,23 +387,41 @@ impl IdleStreams {
         self.idle.iter().any(|one| one.connection.has_begun() || one.connection.has_unsent())
     }
 
-    // Whether an end that is asked for is reached: what was on its way has come, and nothing is in
-    // hand or the time is over. No connection is accepted from then on.
-    fn is_at_end(&mut self, rt: &HostRuntime, closing: Option<&Closing>) -> io::Result<bool> {
+    // How long ago an end was asked for, if it is. Once what was on its way has come, no connection
+    // is accepted.
+    fn asked_for(
+        &mut self,
+        rt: &HostRuntime,
+        closing: Option<&Closing>,
+    ) -> io::Result<Option<Duration>> {
         if !is_asked(closing) {
-            return Ok(false);
+            return Ok(None);
         }
         let now = Instant::now(rt)?;
         let passed = now.duration_since(*self.asked.get_or_insert(now));
-        if passed < Duration::from_millis(ON_ITS_WAY) {
-            return Ok(false);
+        if Duration::from_millis(ON_ITS_WAY) <= passed {
+            self.may_accept = false;
         }
-        self.may_accept = false;
-        Ok(!self.has_work() || Duration::from_millis(LAST_MESSAGES) <= passed)
+        Ok(Some(passed))
+    }
+
+    // The next message as a whole, or that an end that was asked for so long ago is reached: what
+    // was on its way has come, and nothing is in hand, or the time is over, also for the messages
+    // that clients send without a pause.
+    fn message_or_end(&mut self, passed: Option<Duration>) -> MessageOrEnd {
+        if is_past(passed, LAST_MESSAGES) {
+            return MessageOrEnd::End;
+        }
+        match self.take_whole() {
+            Some(gathered) => MessageOrEnd::Message(gathered),
+            None if is_past(passed, ON_ITS_WAY) && !self.has_work() => MessageOrEnd::End,
+            None => MessageOrEnd::Neither,
+        }
     }
 
     /// The next connection that has a message as a whole. None once the journal is lost, at most
-    /// half a second later, or an end is asked for and the messages in hand are served.
+    /// half a second later, or an end is asked for and the messages in hand are served, at most
+    /// four seconds later.
     pub(crate) fn next(
         &mut self,
         rt: &HostRuntime,
@@ -401,6 +435,7 @@ impl IdleStreams {
                 return Ok(None);
             }
             let has_more = self.look(lines, wait, closing)?;
+            let passed = self.asked_for(rt, closing)?;
             wait = if self.may_accept {
                 self.admit(rt, lines, listener)?
             } else {
@@ -410,11 +445,10 @@ impl IdleStreams {
             if !has_more {
                 self.end_overdue(rt)?;
             }
-            if let Some(gathered) = self.take_whole() {
-                return Ok(Some(gathered));
-            }
-            if self.is_at_end(rt, closing)? {
-                return Ok(None);
+            match self.message_or_end(passed) {
+                MessageOrEnd::Message(gathered) => return Ok(Some(gathered)),
+                MessageOrEnd::End => return Ok(None),
+                MessageOrEnd::Neither => {}
             }
         }
         Err(io::Error::from(io::ErrorKind::TimedOut))
