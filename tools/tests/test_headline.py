@@ -1,7 +1,10 @@
-"""docs/HEADLINE.md: what of a definition is read, what a reading of a claim reaches, and that numbers are held."""
+"""docs/HEADLINE.md: what of a definition is read, what a reading of a claim reaches, what is printed of it, and that numbers are held."""
 import contextlib
+import glob
+import hashlib
 import io
 import os
+import re
 import unittest
 from unittest import mock
 
@@ -124,15 +127,91 @@ class Sentences(unittest.TestCase):
             self.assertEqual(len(headline.faults_of_sentences(self.library, [self.bare, self.said], listed)), 1)
 
 
+def printed_by(function, *given):
+    """What a function gives, and what it prints."""
+    out = io.StringIO()
+    with contextlib.redirect_stdout(out):
+        status = function(*given)
+    return status, out.getvalue()
+
+
+def sources():
+    """Each public definition of the folders `specs/`, by its file and its name: read by a rule of this test's own."""
+    for path in glob.glob(os.path.join(ROOT, "crates", "*", "specs", "*.antt")):
+        with open(path, encoding="utf-8") as file:
+            for name in re.findall(r"^ *(?:abbrev pub|unfoldable pub|pub record|pub data) ([^\s:({]+)", file.read(), re.M):
+                yield os.path.relpath(path, ROOT), name
+
+
+class Printed(unittest.TestCase):
+    @classmethod
+    def setUpClass(cls):
+        cls.library = Library()
+
+    def test_each_public_definition_of_a_crate_can_be_printed(self):
+        printed = {(os.path.relpath(it.path, ROOT), key[2]) for key, it in self.library.definitions.items()}
+        lacking = [it for it in sources() if it not in printed]
+        self.assertEqual(lacking, [])
+        self.assertGreater(len(set(sources())), 2000)
+
+    def test_each_full_name_finds_its_definition_alone(self):
+        wrong = [key for key in self.library.definitions if headline.definition_named(self.library, headline.full_name(key)) != key
+                 and not key[1].startswith("declared.")]
+        self.assertEqual(wrong, [])
+
+    def test_a_definition_is_printed_with_its_file_its_sentence_and_what_it_cites(self):
+        text = headline.definition_text(self.library, self.library.named("form_model Forms.Best"), {})
+        name, path, empty, *rest = text.splitlines()
+        self.assertEqual((name, path, empty), ("form_model Forms.Best", "crates/form_model/specs/Forms.antt", ""))
+        self.assertTrue(rest[0].startswith("-- "), rest[0])
+        self.assertIn("pub record Best (P : Problem)", text)
+        self.assertRegex(text, r"It cites:\n(?:  .*\n)*  form_model Forms\.objective: \w")
+
+    def test_a_name_of_several_definitions_and_one_of_none_are_refused(self):
+        for words, wanted in (("IsOver", "3 definitions have this name: .*exam_program Runs.IsOver"), ("Frm", "no definition has this name; near it are .*Firm"),
+                              ("exam_program Forms.Best", "no definition")):
+            with self.assertRaisesRegex(Refused, wanted):
+                headline.definition_named(self.library, words)
+
+    def test_a_reading_has_the_text_of_each_of_its_definitions(self):
+        text = headline.reading_text(self.library, "claim 5, of a server's connections and memory")
+        needed = claims.needs_of(self.library, claims.CLAIMS[4].readings[0]).definitions
+        self.assertEqual([key for key in needed if self.library.definitions[key].text not in text], [])
+        self.assertEqual(text, headline.reading_text(self.library, "claim-5-of-a-servers-connections-and-memory"))
+        with self.assertRaisesRegex(Refused, "there are Claim 1, of a replay; "):
+            headline.reading_text(self.library, "claim 6, of a replay")
+
+
 class Numbers(unittest.TestCase):
+    @classmethod
+    def setUpClass(cls):
+        cls.library = Library()
+        cls.made, cls.definitions = headline.page(cls.library)
+
     def said(self):
-        out = io.StringIO()
-        with contextlib.redirect_stdout(out):
-            status = headline.main(["--check"])
-        return status, out.getvalue()
+        return printed_by(headline.check, self.library, self.made, self.definitions)
 
     def test_the_page_is_the_one_that_is_made(self):
         self.assertEqual(self.said()[0], 0)
+
+    def test_the_page_has_the_digests_of_what_is_printed(self):
+        with open(headline.PAGE, encoding="utf-8") as file:
+            page = file.read()
+        for title, words in (("[of a replay](#claim-1", ["--reading", "claim 1, of a replay"]), ("The SHA-256 of the text of all begins", ["--text"])):
+            digest = hashlib.sha256(printed_by(headline.command, words)[1].encode()).hexdigest()[:16]
+            self.assertIn(f"`{digest}`", next(line for line in page.splitlines() if title in line))
+
+    def test_another_text_of_a_definition_is_another_page(self):
+        best = self.library.definitions[self.library.named("form_model Forms.Best")]
+        with mock.patch.object(best, "text", best.text + " "):
+            other, definitions = headline.page(self.library)
+        self.assertEqual(definitions, self.definitions)
+        self.assertIn("HEADLINE.md is not what", printed_by(headline.check, self.library, other, definitions)[1])
+
+    def test_one_definition_without_a_sentence_too_many_is_refused(self):
+        count = len(headline.bare(self.library, self.definitions))
+        with mock.patch.object(headline, "MOST_BARE", count - 1):
+            self.assertIn(f"{count} definitions that the contract does not reach have no sentence", self.said()[1])
 
     def test_one_definition_too_many_is_refused(self):
         reading = claims.CLAIMS[0].readings[0]

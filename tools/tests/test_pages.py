@@ -116,7 +116,7 @@ class Sizes(unittest.TestCase):
     def test_no_cell_has_more_than_450_characters(self):
         """But for the names of functions and clauses in PROMISES, and pages that are made."""
         for path in pages():
-            if os.path.basename(path) in ("HEADLINE.md", "MODEL.md"):
+            if os.path.basename(path) == "HEADLINE.md":
                 continue
             for number, line in enumerate(text_of(path).splitlines(), 1):
                 cells = re.split(r"(?<!\\)\|", line)[1:-1] if line.startswith("|") else []

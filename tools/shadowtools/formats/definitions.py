@@ -4,9 +4,10 @@ Names are followed by the imports of the file in which they occur, and not by ty
 what is reached may be a little more than what a contract needs, and is never less.
 """
 import dataclasses
+import functools
 import os
 import re
-from typing import Dict, Iterable, List, Optional, Tuple
+from typing import Dict, Iterable, List, Mapping, Optional, Tuple
 
 from shadowtools.command import Refused
 from shadowtools.places import TOP
@@ -46,7 +47,8 @@ def crates() -> List[str]:
     return [words[0] for words in lines if words]
 
 
-def imports_of(text: str) -> Dict[str, Key]:
+@functools.lru_cache(maxsize=None)
+def imports_of(text: str) -> Mapping[str, Key]:
     """The names that a file brings in: each with the crate, the module and the name there."""
     found: Dict[str, Key] = {}
     for path, names, alias in IMPORT.findall(text):
@@ -188,13 +190,13 @@ class Library:
                     return found
         return None
 
-    def names_in(self, text: str, imports: Dict[str, Key], crate: str, module: str) -> List[Key]:
+    def names_in(self, text: str, imports: Mapping[str, Key], crate: str, module: str) -> List[Key]:
         """The keys of the definitions that a text names, in its order and each once."""
         found: List[Key] = []
         for match in NAME.finditer(text):
             name, start = match.group(), match.start()
             if start and text[start - 1] == "." and not text[start - 2:start - 1].isspace():
-                prefix = re.search(r"(\w+)\.$", text[:start])
+                prefix = re.search(r"(\w+)\.$", text[max(start - 100, 0):start])
                 key = imports.get(prefix.group(1) + ".") if prefix else None
                 meant = self.home((key[0], key[1], name)) if key else None
             else:
@@ -242,12 +244,16 @@ class Library:
 
     def named(self, words: str) -> Key:
         """The definition of a crate's name, `crate Name` or, where the crate has two of that name, `crate Module.Name`."""
-        crate, _, name = words.partition(" ")
-        module, _, last = name.rpartition(".")
-        found = [key for key in self.definitions if key[0] == crate and key[2] == last and module in ("", key[1])]
+        found = self.matching(words)
         if len(found) != 1:
             raise Refused(f"{words}: {len(found)} definitions have this name, and one is needed")
         return found[0]
+
+    def matching(self, words: str) -> List[Key]:
+        """The definitions of a name; its module, and its crate, may be left out."""
+        crate, _, name = words.rpartition(" ")
+        module, _, last = name.rpartition(".")
+        return [key for key in self.definitions if crate in ("", key[0]) and key[2] == last and module in ("", key[1])]
 
     def contract(self, crate: str, file: str, function: str) -> Tuple[str, List[Key]]:
         """The text of a public function up to its body, and what its contract cites."""
@@ -261,7 +267,7 @@ class Library:
 
     def cited_by_code(self, part: str, whole: str, crate: str) -> List[Key]:
         """What a part of a source file cites, by the imports of the file and the types declared in it."""
-        local = imports_of(whole)
+        local = dict(imports_of(whole))
         for home, names in re.findall(r"^use (\w+)::(?:\w+::)*\{?([\w, ]+)\}?;", whole, re.M):
             for name in filter(None, (it.strip() for it in names.split(","))):
                 local.setdefault(name, (crate if home == "crate" else home, f"declared.{name}", name))
