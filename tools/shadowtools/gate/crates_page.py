@@ -1,13 +1,15 @@
-"""Makes crates/README.md, the picture of the crates, from crates.txt and the first sentence of each crate's own description.
+"""Makes crates/README.md, the pictures of the crates, from crates.txt and the first sentence of each crate's own description.
 
     tools/crates_page.py           writes the page
     tools/crates_page.py --check   compares it with what would be written; the last line is 'N passed, M failed'
 
-An arrow leads from a crate to one that it uses. Arrows that follow from others are left out.
+The first picture has the blocks of crates.txt, and each block has one of its own. An arrow leads from a crate to one that it uses, or to the block of
+that one if it is another block. Arrows that follow from others are left out.
 """
 import os
 import re
 import sys
+from typing import Dict, List, Sequence, Tuple
 
 from shadowtools.command import as_command
 from shadowtools.formats.definitions import text_of
@@ -16,8 +18,11 @@ from shadowtools.places import TOP
 PAGE = os.path.join(TOP, "crates", "README.md")
 HEAD = """# The crates
 
-This page is made by `tools/crates_page.py` from `crates.txt`, and the full check compares the two. The blocks are those of `crates.txt`, the lowest first: a crate
-uses only crates above it on this page. [ARCHITECTURE.md](../docs/ARCHITECTURE.md) has how a request flows through them."""
+For whoever looks for a crate. This page is made by `tools/crates_page.py` from `crates.txt`, and the full check compares the two. The blocks are those of `crates.txt`, the
+lowest first: a crate uses only crates above it on this page. [ARCHITECTURE.md](../docs/ARCHITECTURE.md) has how a request flows through them. An arrow leads to what is used;
+arrows that follow from others are left out. A round node is a block."""
+Blocks = Sequence[Tuple[str, Dict[str, List[str]]]]
+Arrows = Dict[str, List[str]]
 
 
 def blocks():
@@ -48,29 +53,57 @@ def reduced(needs):
     return {crate: [it for it in used if not any(it in below[other] for other in used)] for crate, used in needs.items()}
 
 
-def picture(all_blocks, arrows):
-    lines = ["```mermaid", "flowchart BT"]
-    for number, (title, crates) in enumerate(all_blocks):
-        lines.append(f'  subgraph block{number}["{title}"]')
-        lines += [f"    {crate}" for crate in crates]
-        lines.append("  end")
-    lines += [f"  {crate} --> {used}" for crate in arrows for used in arrows[crate]]
-    return "\n".join([*lines, "```"])
+def homes(all_blocks: Blocks) -> Dict[str, int]:
+    """The number of each crate's block."""
+    return {crate: number for number, (_, crates) in enumerate(all_blocks) for crate in crates}
+
+
+def flowchart(lines: Sequence[str]) -> str:
+    return "\n".join(["```mermaid", "flowchart BT", *(f"  {line}" for line in lines), "```"])
+
+
+def node_of(number: int, all_blocks: Blocks) -> str:
+    return f'block{number}(["{all_blocks[number][0]}"])'
+
+
+def picture_of_blocks(all_blocks: Blocks, arrows: Arrows) -> str:
+    """The blocks, with an arrow to each block that one of the crates uses."""
+    home = homes(all_blocks)
+    used = {number: sorted({home[it] for crate in crates for it in arrows[crate]} - {number}) for number, (_, crates) in enumerate(all_blocks)}
+    lines = [node_of(number, all_blocks) for number in used]
+    return flowchart(lines + [f"block{number} --> block{it}" for number, others in reduced(used).items() for it in others])
+
+
+def picture_of_block(number: int, all_blocks: Blocks, arrows: Arrows) -> str:
+    """The crates of a block, and the other blocks that they use."""
+    home, crates = homes(all_blocks), list(all_blocks[number][1])
+    others = sorted({home[it] for crate in crates for it in arrows[crate]} - {number})
+    lines = crates + [node_of(other, all_blocks) for other in others]
+    for crate in crates:
+        lines += [f"{crate} --> {it}" for it in arrows[crate] if home[it] == number]
+        lines += [f"{crate} --> block{other}" for other in sorted({home[it] for it in arrows[crate]} - {number})]
+    return flowchart(lines)
+
+
+def link_of(crate: str) -> str:
+    page_of = f", [design]({crate}/DESIGN.md)" if os.path.isfile(os.path.join(TOP, "crates", crate, "DESIGN.md")) else ""
+    return f"[`{crate}`]({crate}){page_of}"
 
 
 def page():
     all_blocks = blocks()
     named = {crate: needs for _, crates in all_blocks for crate, needs in crates.items()}
     arrows = reduced({crate: [it for it in needs if it in named] for crate, needs in named.items()})
-    parts = [HEAD]
-    for title, crates in all_blocks:
+    parts = [HEAD, picture_of_blocks(all_blocks, arrows)]
+    for number, (title, crates) in enumerate(all_blocks):
         rows = []
         for crate, needs in crates.items():
             kit = [it for it in needs if it not in named]
             uses = ", ".join(f"`{it}`" for it in arrows[crate]) + (f"; of the kit {', '.join(kit)}" if kit else "")
-            rows.append(f"| [`{crate}`]({crate}) | {purpose(crate)} | {uses.removeprefix('; ')} |")
+            rows.append(f"| {link_of(crate)} | {purpose(crate)} | {uses.removeprefix('; ')} |")
         parts.append("\n".join([f"## {title[0].upper()}{title[1:]}", "", "| Crate | What it is for | What it uses |", "|---|---|---|", *rows]))
-    return "\n\n".join([*parts, "## The picture", picture(all_blocks, arrows)]) + "\n"
+        parts.append(picture_of_block(number, all_blocks, arrows))
+    return "\n\n".join(parts) + "\n"
 
 
 def main(words):
