@@ -1,4 +1,5 @@
-"""The pages: that each link leads somewhere, that README is a door, that statuses stand once, and that the numbers of TESTING are about right."""
+"""The pages: that each link leads somewhere, how long they are, for whom they are, that statuses stand once, that the numbers of TESTING are about right,
+and that the calls of a picture are those of the code."""
 import functools
 import glob
 import os
@@ -6,7 +7,12 @@ import re
 import unittest
 
 from common import ROOT
+from shadowtools.gate import promises
 
+# The most lines of a page of docs/, and of all of them. A page that needs more takes a line from another one, or this table is changed for a reason.
+MOST_LINES = {"ARCHITECTURE.md": 170, "COMMANDS.md": 80, "DECISIONS.md": 340, "FORMATS.md": 640, "GLOSSARY.md": 200, "GUIDE.md": 760, "HEADLINE.md": 700,
+              "HTTP.md": 250, "OPERATING.md": 800, "PLAN_GUIDE.md": 300, "PROMISES.md": 1080, "SERIES.md": 100, "TESTING.md": 320, "TOUR.md": 130, "TRUST.md": 170}
+MOST_IN_ALL = 6500
 LINK = re.compile(r"(?<!`)\]\(([^)\s]+)\)")
 
 
@@ -57,6 +63,34 @@ def broken_links(path, text):
             yield f"{os.path.relpath(path, ROOT)}: {target} has no such heading"
 
 
+def readers_of(text):
+    """The first sentence of a page after its heading, if it has for whom the page is."""
+    first = re.sub(r"\s+", " ", text.split("\n\n")[1])
+    found = re.match(r"(For [^.]*\.)", first)
+    return found.group(1) if found else ""
+
+
+def sequence_faults(text, calls_of, source_of):
+    """What is wrong with the messages of a picture: each is a public call of the crate that it goes to, and the crate that it comes from calls it."""
+    for picture in re.findall(r"^```mermaid\nsequenceDiagram\n(.*?)^```", text, re.M | re.S):
+        for line in picture.splitlines():
+            message = re.fullmatch(r"  (\w+)->>(\w+): ([\w:]+)", line)
+            if not message:
+                yield f"'{line}' is no message"
+                continue
+            caller, called, name = message.groups()
+            if name not in calls_of(called):
+                yield f"{called} has no public call {name}"
+            elif not re.search(rf"\b{name.rpartition(':')[2]}\(", source_of(caller)):
+                yield f"{caller} does not call {name}"
+
+
+def source_of(crate):
+    """The code of a crate, without comments and contracts."""
+    texts = [text_of(path) for path in glob.glob(os.path.join(ROOT, "crates", crate, "src", "**", "*.rt"), recursive=True)]
+    return re.sub(r"//[^\n]*|^ *(?:pub |const |unsafe )*fn \w+", "", "\n".join(texts), flags=re.M)
+
+
 def lines_in(pattern):
     return sum(text_of(path).count("\n") for path in glob.glob(os.path.join(ROOT, "crates", pattern), recursive=True))
 
@@ -91,6 +125,17 @@ class Sizes(unittest.TestCase):
         self.assertLessEqual(len(lines), 90)
         self.assertLessEqual(sum(len(line.split()) for line in lines), 900)
         self.assertEqual([line for line in lines if len(line) > 100], [])
+
+    def test_no_page_of_docs_has_more_lines_than_it_may(self):
+        found = {os.path.basename(path): len(text_of(path).splitlines()) for path in pages() if os.path.dirname(path) == os.path.join(ROOT, "docs")}
+        self.assertEqual(set(found), set(MOST_LINES))
+        self.assertEqual({name: lines for name, lines in found.items() if lines > MOST_LINES[name]}, {})
+        self.assertLessEqual(sum(found.values()), MOST_IN_ALL)
+
+    def test_each_page_of_docs_begins_with_for_whom_it_is(self):
+        self.assertEqual([name for name in MOST_LINES if not readers_of(text_of(os.path.join(ROOT, "docs", name)))], [])
+        self.assertEqual(readers_of("# A page\n\nThis page is\nlong.\n"), "")
+        self.assertEqual(readers_of("# A page\n\nFor who\nreads. More.\n"), "For who reads.")
 
     def test_each_claim_of_the_readme_has_at_most_20_words(self):
         text = text_of(os.path.join(ROOT, "README.md"))
@@ -138,6 +183,22 @@ class Sizes(unittest.TestCase):
             self.assertEqual(len(written), len(numbers), row)
             for said, number in zip(written, numbers):
                 self.assertLessEqual(abs(said - number), max(1, 0.05 * number), f"{row} should have {list(numbers)}")
+
+
+class Sequence(unittest.TestCase):
+    def test_the_calls_of_the_picture_are_those_of_the_code(self):
+        text = text_of(os.path.join(ROOT, "docs", "ARCHITECTURE.md"))
+        calls = functools.lru_cache(maxsize=None)(promises.calls_of)
+        self.assertEqual(list(sequence_faults(text, calls, source_of)), [])
+        self.assertGreater(text.count("->>"), 10)
+
+    def test_a_call_that_is_none_and_a_caller_that_does_not_call_are_found(self):
+        calls = {"office": ["Office::lead"], "hall": ["handle"]}
+        sources = {"hall": "office.lead(x);", "door": "hall.handler(x);"}
+        text = "```mermaid\nsequenceDiagram\n{}\n```\n".format
+        for line, wanted in (("  hall->>office: Office::lead", []), ("  hall->>office: Office::led", ["office has no public call Office::led"]),
+                             ("  door->>hall: handle", ["door does not call handle"]), ("  hall: x", ["'  hall: x' is no message"])):
+            self.assertEqual(list(sequence_faults(text(line), calls.get, sources.get)), wanted)
 
 
 if __name__ == "__main__":
