@@ -63,6 +63,16 @@ def broken_links(path, text):
             yield f"{os.path.relpath(path, ROOT)}: {target} has no such heading"
 
 
+def has_statuses(text):
+    """Whether a table of the page has a column of statuses of the program. Those of HTTP have three digits."""
+    for table in re.findall(r"(?:^\|.*\n)+", text, re.M):
+        header, *rows = [[cell.strip() for cell in re.split(r"(?<!\\)\|", line)[1:-1]] for line in table.splitlines()]
+        columns = [at for at, cell in enumerate(header) if cell.startswith("Status")]
+        if any(re.fullmatch(r"\d\d?(, \d\d?)*", row[at]) for row in rows for at in columns if at < len(row)):
+            return True
+    return False
+
+
 def readers_of(text):
     """The first sentence of a page after its heading, if it has for whom the page is."""
     first = re.sub(r"\s+", " ", text.split("\n\n")[1])
@@ -144,9 +154,9 @@ class Sizes(unittest.TestCase):
         self.assertEqual([claim for claim in claims if len(claim.split()) > 20], [])
 
     def test_one_page_has_the_table_of_statuses(self):
-        found = [os.path.relpath(path, ROOT) for path in pages() if re.search(r"^\| Status \| (Of|Line|Meaning)[^|]*\|", text_of(path), re.M)
-                 and re.search(r"^\| 12 \|", text_of(path), re.M)]
-        self.assertEqual(found, ["docs/COMMANDS.md"])
+        self.assertEqual([os.path.relpath(path, ROOT) for path in pages() if has_statuses(text_of(path))], ["docs/COMMANDS.md"])
+        self.assertTrue(has_statuses("| Line | Status |\n|---|---|\n| `x` | 19, 20 |\n"))
+        self.assertFalse(has_statuses("| Status | Error |\n|---|---|\n| 500 | `memory` |\n\n| Items | N |\n|---|---|\n| x | 12 |\n"))
 
     def test_the_manual_page_has_the_statuses_of_the_table(self):
         table = set(re.findall(r"^\| (\d+) \|", text_of(os.path.join(ROOT, "docs", "COMMANDS.md")), re.M))
