@@ -18,7 +18,7 @@ LINK = re.compile(r"(?<!`)\]\(([^)\s]+)\)")
 
 def pages():
     found = [os.path.join(ROOT, name) for name in ("README.md", "CONTRIBUTING.md", "CHANGELOG.md", "crates/README.md")]
-    for folder in ("docs", "bench", "crates/*", "examples", "examples/*"):
+    for folder in ("docs", "bench", "crates/*", "examples", "examples/*", "tools"):
         found += glob.glob(os.path.join(ROOT, folder, "*.md"))
     return sorted({os.path.realpath(it) for it in found})
 
