@@ -167,6 +167,10 @@ class Printed(unittest.TestCase):
         self.assertIn("pub record Best (P : Problem)", text)
         self.assertRegex(text, r"It cites:\n(?:  .*\n)*  form_model Forms\.objective: \w")
 
+    def test_a_type_is_printed_as_it_is_declared(self):
+        text = headline.definition_text(self.library, headline.definition_named(self.library, "Breach"), {})
+        self.assertIn("crates/form_model/src/breach.rt\n\n/// The first breach, with the value found.\npub enum Breach {\n", text)
+
     def test_a_name_of_several_definitions_and_one_of_none_are_refused(self):
         for words, wanted in (("IsOver", "3 definitions have this name: .*exam_program Runs.IsOver"), ("Frm", "no definition has this name; near it are .*Firm"),
                               ("exam_program Forms.Best", "no definition")):

@@ -68,7 +68,8 @@ def written(definition, listed, last_section):
     lines = [definition.section] if definition.section and definition.section != last_section else []
     indent = definition.text[:len(definition.text) - len(definition.text.lstrip())]
     sentence = definition.comment or listed.get(definition.key, "")
-    lines += textwrap.wrap(sentence, WIDTH, initial_indent=f"{indent}-- ", subsequent_indent=f"{indent}-- ")
+    mark = indent + ("/// " if definition.is_declared else "-- ")
+    lines += textwrap.wrap(sentence, WIDTH, initial_indent=mark, subsequent_indent=mark)
     return lines + [definition.text]
 
 
