@@ -172,8 +172,8 @@ class Printed(unittest.TestCase):
         self.assertIn("crates/form_model/src/breach.rt\n\n/// The first breach, with the value found.\npub enum Breach {\n", text)
 
     def test_a_name_of_several_definitions_and_one_of_none_are_refused(self):
-        for words, wanted in (("IsOver", "3 definitions have this name: .*exam_program Runs.IsOver"), ("Frm", "no definition has this name; near it are .*Firm"),
-                              ("exam_program Forms.Best", "no definition")):
+        for words, wanted in (("IsOver", "3 definitions have this name: .*exam_program Runs.IsOver"),
+                              ("Frm", "no definition has this name; near it are .*Firm"), ("exam_program Forms.Best", "no definition")):
             with self.assertRaisesRegex(Refused, wanted):
                 headline.definition_named(self.library, words)
 

@@ -18,9 +18,9 @@ from shadowtools.places import TOP
 PAGE = os.path.join(TOP, "crates", "README.md")
 HEAD = """# The crates
 
-For whoever looks for a crate. This page is made by `tools/crates_page.py` from `crates.txt`, and the full check compares the two. The blocks are those of `crates.txt`, the
-lowest first: a crate uses only crates above it on this page. [ARCHITECTURE.md](../docs/ARCHITECTURE.md) has how a request flows through them. An arrow leads to what is used;
-arrows that follow from others are left out. A round node is a block."""
+For whoever looks for a crate. This page is made by `tools/crates_page.py` from `crates.txt`, and the full check compares the two. The blocks are those of
+`crates.txt`, the lowest first: a crate uses only crates above it on this page. [ARCHITECTURE.md](../docs/ARCHITECTURE.md) has how a request flows through them.
+An arrow leads to what is used; arrows that follow from others are left out. A round node is a block."""
 Blocks = Sequence[Tuple[str, Dict[str, List[str]]]]
 Arrows = Dict[str, List[str]]
 

@@ -148,7 +148,8 @@ def claims_part(library, count):
         title, needs = f"Claim {at}, {reading.title}", needs_of(library, reading)
         needed.update(needs.definitions)
         made = digest(text_by_modules(library, needs.definitions))
-        rows.append(f"| {at}. {claim.name}: [{reading.title}](#{anchor(title)}) | {len(needs.definitions)} | {len(needs.types)} | {begins_of(reading)} | `{made}` |")
+        link = f"{at}. {claim.name}: [{reading.title}](#{anchor(title)})"
+        rows.append(f"| {link} | {len(needs.definitions)} | {len(needs.types)} | {begins_of(reading)} | `{made}` |")
         blocks.append(reading_block(library, title, reading, needs))
     return ["\n".join(rows), f"All readings together need {len(needed)} of the {count:,} definitions of the contract.", *blocks]
 
