@@ -60,7 +60,8 @@ class Appeals(WindowFolder):
         self.assertIn("The answers of the table below give this score again.", page)
         for digest in json.loads(self.read("record"))["sha256"].values():
             self.assertIn(digest, page)
-        self.assertIsNone(re.search(r"<script|https?://", re.sub(r"base64,[A-Za-z0-9+/=]+", "", page)))
+        self.assertIsNone(re.search(r"https?://", re.sub(r"base64,[A-Za-z0-9+/=]+", "", page)))
+        self.assertEqual(re.findall(r"<script([^>]*)>", page), [' type="application/json" id="evidence"', ""])
         self.assertIn("Name (Head of testing)", page)
 
     def test_the_picture_of_the_forms(self):

@@ -260,15 +260,15 @@ def has_draws(plan: str) -> bool:
     return part < whole
 
 
-def warn_of_later(plan: str, journal: str) -> None:
+def warn_of_later(plan: str, journal: str, what: str = "folder", cure: str = "keep it closed until then") -> None:
     """Says on standard error where the plan has a key and takes more sessions."""
     if not has_draws(plan):
         return
     limit = re.search(r"(?m)^sessions (\d+)$", text_of(plan))
     left = (int(limit.group(1)) if limit else DEFAULT_SESSIONS) - len(sessions_of(read_journal(journal)))
     if left > 0:
-        print(f"warning: the plan takes {left} sessions more. Who has this folder has the key of their draws: make it after the window, or "
-              "keep it closed until then", file=sys.stderr)
+        print(f"warning: the plan takes {left} sessions more. Who has this {what} has the key of their draws: make it after the window, or "
+              f"{cure}", file=sys.stderr)
 
 
 # ---------------------------------------------------------------- command line

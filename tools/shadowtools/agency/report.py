@@ -1,5 +1,5 @@
-"""A simulation, or a series of fixed forms, as one page of HTML for those who sign it, with its pictures inside; it needs no network
-and no script.
+"""A simulation, or a series of fixed forms, as one page of HTML for those who sign it, with its pictures inside; it needs no network,
+and but for the page of an appeal no script.
 
 usage: report.py PREFIX --run OUT --to REPORT.html [options]
        report.py PREFIX --series LINES --to REPORT.html [--target ..] [--template FILE]
@@ -50,6 +50,7 @@ import pandas as pd  # noqa: E402
 
 from shadowtools.agency import price, window_report  # noqa: E402
 from shadowtools.agency.custody import sha256_of  # noqa: E402
+from shadowtools.agency.custody_folder import has_draws, warn_of_later  # noqa: E402
 from shadowtools.agency.expected import unit_of  # noqa: E402
 from shadowtools.agency.retakers import Retakes, retakes_of  # noqa: E402
 from shadowtools.agency.score import table_text, write  # noqa: E402
@@ -63,6 +64,7 @@ from shadowtools.formats.exposure import Exposure, exposure_of  # noqa: E402
 from shadowtools.formats.tables import text_of  # noqa: E402
 from shadowtools.options import Options, finite, require_folder, whole  # noqa: E402
 from shadowtools.page import appeal as appeal_page, price as price_page, series as series_page, window as window_page  # noqa: E402
+from shadowtools.page.checker import policy_of, require_size  # noqa: E402
 from shadowtools.page.parts import UNBOUND, Section, Verdict  # noqa: E402
 from shadowtools.page.pictures import at_a_glance  # noqa: E402
 from shadowtools.page.sections import chosen, sections  # noqa: E402
@@ -162,17 +164,21 @@ def journal_of(path: str, run: dict, name: str, examination: Examination, watch:
 
 # ---------------------------------------------------------------- what is written
 
-def page(template: str, title: str, lead: str, said: Sequence[Verdict], parts: Sequence[Section]) -> str:
-    """The page. The template escapes every value."""
+def page(template: str, title: str, lead: str, said: Sequence[Verdict], parts: Sequence[Section], script: str = "") -> str:
+    """The page. The template escapes every value. With a script it has a policy that lets this one alone run."""
     environment = jinja2.Environment(autoescape=True, undefined=jinja2.StrictUndefined, trim_blocks=False)
     try:
         made = environment.from_string(text_of(template))
     except jinja2.TemplateSyntaxError as error:
         raise Refused(f"{template}: line {error.lineno}: {error.message}")
-    try:
-        return made.render(title=title, lead=lead, verdicts=said, sections=parts) + "\n"
-    except jinja2.TemplateError as error:
-        raise Refused(f"{template}: {error.message}")
+
+    def render(policy: str) -> str:
+        try:
+            return made.render(title=title, lead=lead, verdicts=said, sections=parts, policy=policy) + "\n"
+        except jinja2.TemplateError as error:
+            raise Refused(f"{template}: {error.message}")
+    text = render("")
+    return render(policy_of(text, script)) if script else text
 
 
 def page_of_run(study: Study, template: str) -> str:
@@ -238,9 +244,15 @@ def page_of_window(words: Sequence[str]) -> int:
 def page_of_appeal(given: argparse.Namespace) -> int:
     """Writes the page of one session. The exit status."""
     found = window_report.appeal(given, window_report.tell)
+    key = " and the key of the draws" if found.evidence.has_key and has_draws(found.examination.files()[1]) else ""
     lead = f"Examination {os.path.basename(given.prefix)}, booking {found.session.booking}, session {found.number}. For the appeal board: it names items, and " \
-           f"is confidential. {now()}."
-    write(given.to, page(given.template, "One examinee's test, step by step", lead, appeal_page.verdicts(found), appeal_page.sections(found)))
+           f"is confidential: has the whole bank{key}. {now()}."
+    text = page(given.template, "One examinee's test, step by step", lead, appeal_page.verdicts(found), appeal_page.sections(found),
+                found.evidence.part().script)
+    require_size(given.to, text, (*found.examination.files(), given.journal))
+    if found.evidence.has_key:
+        warn_of_later(found.examination.files()[1], given.journal, "page", "give --without-key")
+    write(given.to, text)
     print(f"{given.to}: session {found.number}, booking {found.session.booking}, score {found.row['scale'] or 'none'}, audits "
           f"{'agree' if found.audits.agree else 'DISAGREE'}")
     return 0 if found.holds else 1

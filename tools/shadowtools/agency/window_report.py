@@ -10,7 +10,9 @@ usage: report.py PREFIX --journal JOURNAL --record RECORD --to REPORT.html [opti
   --bands S ..       edges of bands of the reported score; default the mean of the plan's prior and one and two of its deviations
   --seed N           of the simulated limits of person fit and of the second sittings; default 1
   --session N, --booking B
-                     the page for an appeal: one session step by step, for a board. It names items, and is confidential
+                     the page for an appeal: one session step by step, for a board. It has the whole bank, and is confidential; a button
+                     judges the records of the session in the reader's browser, without a network
+  --without-key      a page for an appeal without the key of the draws, which its button does not judge then
   --template FILE    another template for jinja2 than report.html of these tools
   --program SHADOWD  the program that audits; default $SHADOWD, else crates/shadowd/out/shadowd
 
@@ -33,14 +35,16 @@ from shadowtools.agency import score as scores
 from shadowtools.agency.custody import sha256_of
 from shadowtools.agency.fit import Answers, PersonFit, Population, fit_of_examinees, fit_of_items, population_of
 from shadowtools.agency.results import may_be_unbound, read_record, require_own, results_of
+from shadowtools.agency.scoring import Scorer
 from shadowtools.agency.simulation import MOST_SEED, Examination, load
 from shadowtools.agency.window import (Beside, Window, agreement_of, audits_of, read_annulled, read_persons, read_times,
                                        reliability_of, retests_of, seals_of, second_levels)
 from shadowtools.command import Refused
-from shadowtools.formats.examination import Session, read_journal
-from shadowtools.formats.exposure import exposure_of
+from shadowtools.formats.examination import Session, opened, read_journal
+from shadowtools.formats.exposure import Exposure, exposure_of
 from shadowtools.options import Options, finite, require_folder, whole
 from shadowtools.page.appeal import Appeal
+from shadowtools.page.checker import Evidence, plan_without_key, records_of
 from shadowtools.page.parts import UNBOUND
 from shadowtools.page.window import FEWEST, Findings, Group
 from shadowtools.places import BUILT, revision
@@ -58,12 +62,15 @@ def options(words: Sequence[str], template: str) -> argparse.Namespace:
     parser.add_argument("--seed", type=whole(0, MOST_SEED))
     parser.add_argument("--session", type=whole(0, MOST_SESSION))
     parser.add_argument("--booking", type=whole(0, 10 ** 18 - 1))
+    parser.add_argument("--without-key", action="store_true")
     parser.add_argument("--template", default=template)
     parser.add_argument("--program", default=BUILT)
     found = parser.read(words, lambda given: bool(given.prefix and given.journal and given.record and given.to))
     found.is_appeal = found.session is not None or found.booking is not None
     if found.session is not None and found.booking is not None:
         raise Refused("--session or --booking, and not both")
+    if found.without_key and not found.is_appeal:
+        raise Refused("--without-key is about the page of one session; it is used with --session or --booking")
     for name in ("annul", "persons", "times", "bands", "seed"):
         if found.is_appeal and getattr(found, name) is not None:
             raise Refused(f"--{name} is about a window; it is not used with --session or --booking")
@@ -159,8 +166,23 @@ def appeal(given: argparse.Namespace, tell: Callable[[str], None]) -> Appeal:
     row = list(csv.DictReader(results.text.splitlines()))[number]
     own = [place for place, entry in enumerate(entries, 1) if entry.session == number]
     facts = [("Revision of the tools", revision())] + ([] if examination.is_bound else [UNBOUND])
+    before = exposure_of(entries[:own[0] - 1], examination.bank, examination.plan)
+    evidence = evidence_of(given, examination, results.scorer, number, sessions[number].booking, before)
     return Appeal(examination, results.scorer, sessions[number], number, row, (own[0], own[-1], len(entries)), audits,
-                  seals_of(given.journal, given.seals), facts, digests_of(given, examination, record, program))
+                  seals_of(given.journal, given.seals), facts, digests_of(given, examination, record, program) + evidence.digests(), evidence)
+
+
+def evidence_of(given: argparse.Namespace, examination: Examination, scorer: Scorer, number: int, booking: int, before: Exposure) -> Evidence:
+    """What the button of the page judges. `before` has the counts before the start of the session."""
+    bank, plan = (whole_text(path) for path in examination.files())
+    return Evidence(number, booking, bank, plan_without_key(plan) if given.without_key else plan, not given.without_key,
+                    records_of(given.journal, number), before, [item.name for item in examination.items], scorer)
+
+
+def whole_text(path: str) -> str:
+    """The text of a file of UTF-8 with each of its bytes."""
+    with opened(path, "rb") as file:
+        return file.read().decode("utf-8")
 
 
 def session_of(given: argparse.Namespace, sessions: Sequence[Session]) -> int:

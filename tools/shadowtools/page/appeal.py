@@ -1,4 +1,4 @@
-"""The page for an appeal: one examinee's test, step by step, for a board. It names items, and is confidential."""
+"""The page for an appeal: one examinee's test, step by step, for a board. It has the whole bank, and is confidential."""
 import base64
 import html
 import os
@@ -11,6 +11,7 @@ from shadowtools.agency.simulation import Examination
 from shadowtools.agency.window import Audits
 from shadowtools.checkers.audit import Seal
 from shadowtools.formats.examination import Session
+from shadowtools.page.checker import Evidence
 from shadowtools.page.parts import Facts, Note, Picture, Pictures, Section, Signatures, Table, Verdict
 from shadowtools.page.sections import named
 from shadowtools.page.study import plain
@@ -47,6 +48,7 @@ class Appeal:
     seals: Sequence[Tuple[str, Seal, bool]]
     facts: List[Tuple[str, str]]
     files: List[Tuple[str, str]]
+    evidence: Evidence
 
     def __post_init__(self) -> None:
         self.names = [item.name for item in self.examination.items]
@@ -88,7 +90,10 @@ class Appeal:
 # ---------------------------------------------------------------- verdicts
 
 def verdicts(appeal: Appeal) -> List[Verdict]:
-    return [score(appeal), forms(appeal), journal(appeal), *seals(appeal), rules(appeal), eligibility(appeal)]
+    found = [score(appeal), forms(appeal), journal(appeal), *seals(appeal), rules(appeal), eligibility(appeal)]
+    if not appeal.evidence.has_key:
+        found.append(Verdict(MEASURED, "The page was made without the key of the draws (--without-key), so its button does not judge them."))
+    return found
 
 
 def error(appeal: Appeal, value: float) -> str:
@@ -165,6 +170,10 @@ def sections(appeal: Appeal) -> List[Section]:
                 f"The estimate before is the point of the grid at which the items were chosen, in logits, and the information is that of the item there. "
                 f"The score after is the {NAMES[appeal.scorer.asked.estimate]} of the answers so far, on the scale {words_of(appeal.scorer.asked.scale)}.")]),
             Section("rules", "Rules", [rule_table(appeal)]),
+            Section("check", "This page checks itself", [Note(
+                "The button judges the records of this session in your browser, without a network: each record, proof tree, estimate, served item and "
+                "draw, the table of steps and the score. Its script shares nothing with the program or the tools that made this page. It lists what it "
+                "cannot judge, itself among it."), appeal.evidence.part()]),
             Section("files", "Files", [Facts(appeal.facts), Facts([(f"SHA-256, {name}", value) for name, value in appeal.files], "files"),
                                        Signatures(["Head of testing"])])]
 
