@@ -30,13 +30,7 @@ function tree(job) {
 }
 
 function page(job) {
-    let evidence;
-    try {
-        evidence = JSON.parse(job.evidence);
-    } catch (fault) {
-        return [{ about: "This page", mark: "does not hold", text: fault.message, kind: "error" }];
-    }
-    return Array.from(judgments(evidence, job.printed));
+    return Array.from(judgments(job.evidence, () => job.printed));
 }
 
 function call(job) {

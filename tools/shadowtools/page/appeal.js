@@ -1257,8 +1257,17 @@ function readRules(evidence) {
     return { bank, plan };
 }
 
-/** Each line, one after another: the page shows a line before the next one is judged. */
-function* judgments(evidence, printed) {
+/** Each line, one after another: the page shows a line before the next one is judged. `text` is that of the evidence, and `readPrinted` gives the
+    printed texts. */
+function* judgments(text, readPrinted) {
+    try {
+        yield* allLines(JSON.parse(text), readPrinted());
+    } catch (error) {
+        yield { about: "This page", mark: DOES_NOT_HOLD, text: error.message, kind: "error" };
+    }
+}
+
+function* allLines(evidence, printed) {
     let session = null;
     yield* digestLines(evidence, printed);
     const rules = lineOf("Bank and plan", () => {
@@ -1306,28 +1315,19 @@ function showEnd(page, lines) {
 
 /** Judges in slices, a line each, so that the browser stays awake. */
 function judgePage(page) {
-    const lines = [], button = page.getElementById("judge");
-    let left = null;
-    const show = line => {
-        lines.push(line);
-        showLine(page, line);
-        page.getElementById("judging").textContent = `${lines.length} lines so far ..`;
-    };
+    const lines = [], left = judgments(page.getElementById("evidence").textContent, () => printedTexts(page));
     const slice = () => {
-        try {
-            left = left || judgments(JSON.parse(page.getElementById("evidence").textContent), printedTexts(page));
-            const next = left.next();
-            if (!next.done) {
-                show(next.value);
-                setTimeout(slice, 0);
-                return;
-            }
-        } catch (error) {
-            show({ about: "This page", mark: DOES_NOT_HOLD, text: error.message, kind: "error" });
+        const next = left.next();
+        if (next.done) {
+            showEnd(page, lines);
+            return;
         }
-        showEnd(page, lines);
+        lines.push(next.value);
+        showLine(page, next.value);
+        page.getElementById("judging").textContent = `${lines.length} lines so far ..`;
+        setTimeout(slice, 0);
     };
-    button.disabled = true;
+    page.getElementById("judge").disabled = true;
     slice();
 }
 
