@@ -372,7 +372,7 @@ class Sessions(Records):
         self.assertIsNone(fault_of(lines[1]))
         self.assertIn("The draws", [line["about"] for line in lines[1] if line["mark"] == OPEN_LINE])
         self.assertIn({"about": "SHA-256 of the plan without its key", "mark": HOLDS, "kind": None,
-                       "text": "the plan without its key of this page has the SHA-256 that is printed"}, lines[1])
+                       "text": "it is the one that is printed"}, lines[1])
 
     def test_what_is_left_open(self):
         lines = self.lines([(self.evidence(3).values(), self.printed(self.evidence(3)))])[0]
@@ -462,7 +462,8 @@ class Pages(PageFolder):
         for row, column in itertools.product(range(4), range(8)):
             other = json.loads(json.dumps(printed))
             cell = other["steps"][row][column]
-            other["steps"][row][column] = re.sub(r"\d(?=\D*$)", lambda digit: str((int(digit.group()) + 2) % 10), cell) if re.search(r"\d", cell) else cell + "x"
+            other["steps"][row][column] = re.sub(r"\d(?=\D*$)", lambda digit: str((int(digit.group()) + 2) % 10), cell) if re.search(r"\d", cell) \
+                else cell + "x"
             others.append((other, "The table of steps"))
         score, error = re.match(r"The score is (\S+), its standard error (\d+\.\d)", printed["score"]).groups()
         for text in (printed["score"].replace(score, str(int(score) + 1)), printed["score"].replace(error, str(float(error) + 0.2)), "No score."):

@@ -1049,14 +1049,16 @@ class Session {
         }
         this.list = entry.list;
         this.form = entry.witness;
-        const drawn = this.undrawn ? "the eligible items that need no key" : "each eligible item";
-        return `the session starts: ${drawn}, by the counts that the page states${entry.list.size ? "; the list and its witness" : ""}`;
+        const drawn = this.undrawn ? "the eligible items that need no key" : "the eligible items";
+        return `the session starts; ${drawn} are the draw at the counts that the page states`
+            + (entry.list.size ? `; a form without the ${entry.list.size} items of its list shows that there is one` : "");
     }
 
     setAside(entry) {
         demand(this.place === "pending" && (entry.step === null || entry.step === this.step), "illegal", "the session does not wait for an item there");
         const band = this.bandOf(this.estimate);
-        demand((entry.band === null || entry.band === band) && !this.aside.has(band), "illegal", "the band is not that of the estimate, or was set aside before");
+        demand((entry.band === null || entry.band === band) && !this.aside.has(band), "illegal",
+            "the band is not that of the estimate, or was set aside before");
         const said = this.tree(this.problem(), null, entry.cause === NO_FORM ? "NoForm" : "Partial", entry.tree);
         this.aside.set(band, this.step);
         return `eligibility is set aside at step ${this.step + 1} in band ${band}: ${said}`;
@@ -1066,11 +1068,11 @@ class Session {
         demand(this.place === "pending" && entry.step === this.step, "illegal", "the session does not wait for an item there");
         const problem = this.problem();
         demand(isForm(problem, entry.form), "illegal", "the set of items is no form of the session's problem");
-        demand(entry.item === this.itemFrom(problem, entry.form), "illegal", `item ${entry.item} is not the one that is served from the form`);
+        demand(entry.item === this.itemFrom(problem, entry.form), "illegal", `item number ${entry.item} is not the one that is served from the form`);
         const said = this.tree(problem, entry.form, entry.mark ? "Optimal" : "Partial", entry.tree);
         this.steps.push({ item: entry.item, point: problem.point, form: entry.form, isProved: entry.mark === 1, isAside: this.isAsideNow() });
         this.form = entry.form;
-        return `item ${entry.item} is served at step ${this.step + 1} at the estimate of point ${problem.point}: ${said}`;
+        return `item ${this.evidence.names[entry.item]} is served at step ${this.step + 1} at the estimate of point ${problem.point}: ${said}`;
     }
 
     isAsideNow() {
@@ -1208,8 +1210,8 @@ function joined(parts) {
 }
 
 function judgeDigest(printed, name, bytes) {
-    demand(printed.files[name] === sha256(bytes), "page", `the SHA-256 of the ${name} in this page is ${sha256(bytes)}; another one is printed`);
-    return `the ${name} of this page has the SHA-256 that is printed`;
+    demand(printed.files[name] === sha256(bytes), "page", `it is ${sha256(bytes)}, and another one is printed`);
+    return "it is the one that is printed";
 }
 
 function* digestLines(evidence, printed) {
@@ -1237,11 +1239,11 @@ function* recordLines(session, evidence) {
 /** What no page can show of itself. */
 function* openLines(evidence, session) {
     const open = [
-        ["This checker", "its own text. Its SHA-256 is printed, and is that of appeal.js in the release"],
-        ["The journal", "that these are all records of this session in the sealed journal. tools/audit.py --seal, and a custody folder"],
-        ["The counts", "the exposure counts at the start of the session, on which the eligible items rest. tools/audit.py, from the whole journal"],
-        ["The responses", "that the responses are those that the examinee gave"],
-        ["The bank and the plan", "that the item parameters are right, and that these files are those of the examination. Compare their SHA-256"],
+        ["This checker", "whether it judges right. Its SHA-256 is printed; compare it with that of appeal.js in the release"],
+        ["The journal", "whether these are all records of this session in the sealed journal. tools/audit.py judges the journal"],
+        ["The counts", "the exposure counts at the start of the session, on which the eligible items rest. tools/audit.py counts them from the journal"],
+        ["The responses", "whether the responses are those that the examinee gave"],
+        ["The bank and the plan", "whether the item parameters are right, and whether these files are those of the examination. Compare their SHA-256"],
     ];
     if (session !== null && session.undrawn) {
         open.push(["The draws", `${session.undrawn} draws of eligible items: this page was made without the key`]);

@@ -172,8 +172,8 @@ def sections(appeal: Appeal) -> List[Section]:
             Section("rules", "Rules", [rule_table(appeal)]),
             Section("check", "This page checks itself", [Note(
                 "The button judges the records of this session in your browser, without a network: each record, proof tree, estimate, served item and "
-                "draw, the table of steps and the score. Its script shares nothing with the program or the tools that made this page. It lists what it "
-                "cannot judge, itself among it."), appeal.evidence.part()]),
+                "draw, the table of steps and the score. Its script shares nothing with the program or the tools that made this page. It also lists what "
+                "it cannot judge."), appeal.evidence.part()]),
             Section("files", "Files", [Facts(appeal.facts), Facts([(f"SHA-256, {name}", value) for name, value in appeal.files], "files"),
                                        Signatures(["Head of testing"])])]
 
