@@ -5,13 +5,11 @@
 //   pages  {evidence, printed}               the lines of a page; evidence is the text of its JSON
 //   calls  {name, words}                     a function of the script by its name
 
-const fs = require("fs"), vm = require("vm");
+const fs = require("fs");
 
 const [script, jobs] = process.argv.slice(2).map(path => fs.readFileSync(path, "utf8"));
-const context = vm.createContext({});
-vm.runInContext(script, context);
-const [readTree, checkOf, judgments] = vm.runInContext(
-    "[text => readTree(bytesOfHexadecimal(text)), (...words) => new Check(...words), judgments]", context);
+const named = new Function(`${script}\nreturn name => eval(name);`)();
+const readTree = named("text => readTree(bytesOfHexadecimal(text))"), Check = named("Check"), judgments = named("judgments");
 
 function setOf(items) {
     return items === null ? null : new Set(items);
@@ -25,7 +23,7 @@ function tree(job) {
     } catch (fault) {
         return [fault.message, null];
     }
-    const check = checkOf(problem, setOf(job.form), read);
+    const check = new Check(problem, setOf(job.form), read);
     return [check.verdict(), check.spends(job.budget)];
 }
 
@@ -34,7 +32,7 @@ function page(job) {
 }
 
 function call(job) {
-    return vm.runInContext(job.name, context)(...job.words);
+    return named(job.name)(...job.words);
 }
 
 const kinds = { trees: tree, pages: page, calls: call };

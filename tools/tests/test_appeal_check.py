@@ -14,6 +14,7 @@ import types
 import unittest
 from collections import Counter
 
+import data_of_bands as bands
 import journal_maker
 import test_check_tree as by_hand
 from common import PROGRAM, Folder, needs_page, needs_program
@@ -294,8 +295,8 @@ def fault_in_python(values):
         if head != b"\1" + len(payload).to_bytes(4, "big"):
             return place, "record"
         try:
-            kind, fields = audit.read_record(payload, record["version"])
-            if fields[0] != values["session"] or kind == audit.STARTED and str(fields[1]) != values["booking"]:
+            if payload[1:5] != values["session"].to_bytes(4, "big") or payload[0] in (6, 9) and payload[5:13] != int(values["booking"]).to_bytes(8, "big"):
+                audit.read_record(payload, record["version"])
                 return place, "illegal"
             judge.take(audit.Record(0, record["version"], payload))
         except ValueError:
@@ -374,6 +375,10 @@ class Sessions(Records):
         self.assertIn({"about": "SHA-256 of the plan without its key", "mark": HOLDS, "kind": None,
                        "text": "it is the one that is printed"}, lines[1])
 
+    def test_a_key_in_a_remark(self):
+        self.assertEqual(checker.plan_without_key(f"length 3\n# was key {KEY.upper()}\nkey {KEY}\nrate 1 2\n"),
+                         f"length 3\n# was key (left out)\n{checker.WITHOUT_KEY}\nrate 1 2\n")
+
     def test_what_is_left_open(self):
         lines = self.lines([(self.evidence(3).values(), self.printed(self.evidence(3)))])[0]
         self.assertEqual([line["about"] for line in lines if line["mark"] == OPEN_LINE and line["about"] != "The score"],
@@ -386,6 +391,28 @@ class Sessions(Records):
             jobs.append(({**one.values(), name: value}, self.printed(one)))
         for (values, _), lines in zip(jobs, self.lines(jobs)):
             self.assertIn(BROKEN, {line["mark"] for line in lines}, values)
+
+
+@needs_node
+class OldRecords(Records):
+    """A journal of version 1 with two bands, whose starts have the eligible items of one band alone."""
+
+    def setUp(self):
+        Script.setUp(self)
+        self.write("bank", bands.BANK_TWO)
+        self.write("plan", bands.PLAN_TWO)
+        with open(self.path("journal"), "wb") as file:
+            file.write(journal_maker.Maker(bands.BANK_TWO, bands.PLAN_TWO).run(bands.SCRIPT_TWO).files()[0])
+
+    def test_bands_that_a_reader_makes_anew(self):
+        """Session 2 sets eligibility aside in band 0 and then in band 1. The items of band 1 are drawn with the key, which the second page has not:
+        what rests on them is not judged, and does not break."""
+        whole, part = (self.evidence(2, has_key=has_key) for has_key in (True, False))
+        with_key, without = self.lines([(one.values(), self.printed(one)) for one in (whole, part)])
+        marks = [[line["mark"] for line in lines if line["about"].startswith("Record ")] for lines in (with_key, without)]
+        self.assertEqual(marks, [[HOLDS] * 7, [HOLDS] * 4 + [OPEN_LINE] * 3])
+        self.assertNotIn(BROKEN, {line["mark"] for line in without})
+        self.assertTrue({"The table of steps", "The score", "The draws"} <= {line["about"] for line in without if line["mark"] == OPEN_LINE})
 
 
 # ---------------------------------------------------------------- pages

@@ -98,8 +98,8 @@ function fractionOfRoot(prime, power) {
     return Number(low & 0xffffffffn);
 }
 
-const ROUND_WORDS = Uint32Array.from(firstPrimes(64), prime => fractionOfRoot(prime, 3));
-const FIRST_WORDS = Uint32Array.from(firstPrimes(8), prime => fractionOfRoot(prime, 2));
+const ROUND_WORDS = Int32Array.from(firstPrimes(64), prime => fractionOfRoot(prime, 3));
+const FIRST_WORDS = Int32Array.from(firstPrimes(8), prime => fractionOfRoot(prime, 2));
 
 function turnedRight(word, by) {
     return word >>> by | word << 32 - by;
@@ -115,23 +115,32 @@ function padded(bytes) {
 }
 
 function sha256(bytes) {
-    const state = Uint32Array.from(FIRST_WORDS), words = new Uint32Array(64), view = padded(bytes);
+    const state = Int32Array.from(FIRST_WORDS), words = new Int32Array(64), view = padded(bytes);
     for (let block = 0; block < view.byteLength; block += 64) {
-        for (let t = 0; t < 64; t++) {
+        for (let t = 0; t < 16; t++) {
+            words[t] = view.getInt32(block + 4 * t);
+        }
+        for (let t = 16; t < 64; t++) {
             const before = words[t - 15], last = words[t - 2];
-            words[t] = t < 16 ? view.getUint32(block + 4 * t)
-                : words[t - 16] + (turnedRight(before, 7) ^ turnedRight(before, 18) ^ before >>> 3)
+            words[t] = words[t - 16] + (turnedRight(before, 7) ^ turnedRight(before, 18) ^ before >>> 3)
                 + words[t - 7] + (turnedRight(last, 17) ^ turnedRight(last, 19) ^ last >>> 10);
         }
         let [a, b, c, d, e, f, g, h] = state;
         for (let t = 0; t < 64; t++) {
-            const one = h + (turnedRight(e, 6) ^ turnedRight(e, 11) ^ turnedRight(e, 25)) + (e & f ^ ~e & g) + ROUND_WORDS[t] + words[t];
-            const two = (turnedRight(a, 2) ^ turnedRight(a, 13) ^ turnedRight(a, 22)) + (a & b ^ a & c ^ b & c);
-            [a, b, c, d, e, f, g, h] = [one + two | 0, a, b, c, d + one | 0, e, f, g];
+            const one = h + (turnedRight(e, 6) ^ turnedRight(e, 11) ^ turnedRight(e, 25)) + (e & f ^ ~e & g) + ROUND_WORDS[t] + words[t] | 0;
+            const two = (turnedRight(a, 2) ^ turnedRight(a, 13) ^ turnedRight(a, 22)) + (a & b ^ a & c ^ b & c) | 0;
+            h = g;
+            g = f;
+            f = e;
+            e = d + one | 0;
+            d = c;
+            c = b;
+            b = a;
+            a = one + two | 0;
         }
         [a, b, c, d, e, f, g, h].forEach((value, place) => { state[place] += value; });
     }
-    return Array.from(state, word => word.toString(16).padStart(8, "0")).join("");
+    return Array.from(state, word => (word >>> 0).toString(16).padStart(8, "0")).join("");
 }
 
 // ------------------------------------------------------------------------------------------------ "The item bank"
@@ -428,23 +437,17 @@ function readNode(reader) {
 
 const OUT = 0, IN = 1, FREE = 2;
 
-/** A path: where each item is, which stimuli a left branch chose, and by stimulus whether it is chosen or open. */
+/** A path: where each item is, which stimuli a left branch chose, and by stimulus (0 for none) how many of its items are in and free, and whether it
+    is chosen or open. */
 function pathOf(problem, where, branched) {
-    const { items, stimuli } = problem.bank, chosen = branched.slice(), open = new Uint8Array(stimuli + 1);
-    let taken = 0, free = 0;
+    const { items, stimuli } = problem.bank, takenBy = new Uint16Array(stimuli + 1), freeBy = new Uint16Array(stimuli + 1);
     items.forEach(({ stimulus }, item) => {
-        taken += where[item] === IN ? 1 : 0;
-        free += where[item] === FREE ? 1 : 0;
-        if (stimulus > 0 && where[item] === IN) {
-            chosen[stimulus] = 1;
-        }
+        takenBy[stimulus] += where[item] === IN ? 1 : 0;
+        freeBy[stimulus] += where[item] === FREE ? 1 : 0;
     });
-    items.forEach(({ stimulus }, item) => {
-        if (stimulus > 0 && where[item] === FREE && !chosen[stimulus]) {
-            open[stimulus] = 1;
-        }
-    });
-    return { where, branched, chosen, open, taken, free };
+    const chosen = branched.map((isBranched, stimulus) => stimulus > 0 && (isBranched || takenBy[stimulus] > 0) ? 1 : 0);
+    const open = chosen.map((isChosen, stimulus) => stimulus > 0 && !isChosen && freeBy[stimulus] > 0 ? 1 : 0);
+    return { where, branched, chosen, open, takenBy, freeBy, taken: sum(takenBy), free: sum(freeBy) };
 }
 
 function rootOf(problem) {
@@ -498,15 +501,8 @@ function rowIsImpossible(problem, path, row) {
 }
 
 function stimulusIsImpossible(problem, path, stimulus) {
-    const [low, high] = problem.plan.bounds[stimulus - 1];
-    let taken = 0, possible = 0;
-    problem.bank.items.forEach((item, number) => {
-        if (item.stimulus === stimulus) {
-            taken += path.where[number] === IN ? 1 : 0;
-            possible += path.where[number] === OUT ? 0 : 1;
-        }
-    });
-    return taken > high || path.chosen[stimulus] === 1 && possible < low;
+    const [low, high] = problem.plan.bounds[stimulus - 1], taken = path.takenBy[stimulus];
+    return taken > high || path.chosen[stimulus] === 1 && taken + path.freeBy[stimulus] < low;
 }
 
 /** Whether the row of a number is impossible: 0 the length, then the rows of the plan, then the stimuli. */
@@ -1158,7 +1154,15 @@ function judgeRow(session, evidence, cells, place) {
     demandNear(error, asked.unit * score.error, 0.501 * 10 ** -Math.min(4, asked.decimals + 1), "its error");
 }
 
+/** What is printed of the steps is judged only where each record holds. */
+function requireRecords(session, evidence) {
+    if (session.entries !== evidence.records.length) {
+        throw new Unjudged("a record does not hold, or is not judged");
+    }
+}
+
 function judgeTable(session, evidence, printed) {
+    requireRecords(session, evidence);
     demand(printed.steps.length === session.steps.length, "page", `${printed.steps.length} steps are printed, the records have ${session.steps.length}`);
     printed.steps.forEach((cells, place) => {
         try {
@@ -1173,6 +1177,7 @@ function judgeTable(session, evidence, printed) {
 }
 
 function judgeScore(session, evidence, printed) {
+    requireRecords(session, evidence);
     const asked = evidence.score, found = /^The score is (-?[0-9]+(?:\.[0-9]+)?), its standard error ([0-9]+(?:\.[0-9]+)?)/.exec(printed.score);
     if (asked.isByLikelihood) {
         throw new Unjudged(`the ${asked.name} is computed from the item parameters, which this page has not; tools/score.py computes it`);
@@ -1210,7 +1215,8 @@ function joined(parts) {
 }
 
 function judgeDigest(printed, name, bytes) {
-    demand(printed.files[name] === sha256(bytes), "page", `it is ${sha256(bytes)}, and another one is printed`);
+    const found = sha256(bytes);
+    demand(printed.files[name] === found, "page", `it is ${found}, and another one is printed`);
     return "it is the one that is printed";
 }
 

@@ -18,7 +18,7 @@ from shadowtools.formats.tables import text_of
 SCRIPT = os.path.join(os.path.dirname(os.path.abspath(__file__)), "appeal.js")
 MOST_BYTES = 20_000_000
 WITHOUT_KEY = "# The key of the draws was left out of this page."
-KEY = re.compile(r"^key [^\n]*", re.M)
+KEY = re.compile(r"^key ([0-9a-f]{64})$", re.M)
 
 
 @dataclass(frozen=True)
@@ -92,8 +92,9 @@ def digest(data: bytes) -> str:
 
 
 def plan_without_key(text: str) -> str:
-    """The text of a plan with a remark in the place of its key; its other lines keep their numbers."""
-    return KEY.sub(WITHOUT_KEY, text)
+    """The text of a plan with a remark in the place of its key, which is left out of other remarks too; its other lines keep their numbers."""
+    key = KEY.search(text)
+    return re.sub(key.group(1), "(left out)", KEY.sub(WITHOUT_KEY, text), flags=re.I) if key else text
 
 
 # ---------------------------------------------------------------- the page
