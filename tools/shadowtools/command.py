@@ -5,6 +5,9 @@ import sys
 from typing import Callable, Optional, Sequence
 
 
+INTERRUPTED = 130
+
+
 class Refused(Exception):
     """What is given can't be taken. `line` is what is printed, with file, line, column and value as far as there are such;
     `kind` is one word for counts of such refusals, where a tool counts them."""
@@ -31,7 +34,8 @@ def wants_help(words: Sequence[str]) -> bool:
 def as_command(main: Callable[[Sequence[str]], int]) -> Callable[[Optional[Sequence[str]]], int]:
     """A function of the words of the command line, by default the process's; it gives the exit status.
 
-    A refusal is printed on standard error, with status 1. A reader of the output that goes away (`| head`) ends it with 1 too. `--help`
+    A refusal is printed on standard error, with status 1. A reader of the output that goes away (`| head`) ends it with 1 too. Ctrl-C ends
+    it with 130, after the programs that it started. `--help`
     alone prints the docstring of the function's module, unless the module has options of argparse, which print their own."""
     @functools.wraps(main)
     def command(words: Optional[Sequence[str]] = None) -> int:
@@ -49,4 +53,7 @@ def as_command(main: Callable[[Sequence[str]], int]) -> Callable[[Optional[Seque
         except BrokenPipeError:
             os.dup2(os.open(os.devnull, os.O_WRONLY), sys.stdout.fileno())
             return 1
+        except KeyboardInterrupt:
+            print("interrupted", file=sys.stderr)
+            return INTERRUPTED
     return command

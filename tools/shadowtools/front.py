@@ -8,12 +8,16 @@ usage: shadow COMMAND [words]          shadow COMMAND --help has the words of a 
   score         a score for each examinee of a journal
   explain       why a plan has no form, or how far a form can be from the best
   rate          the exposure rate by which no item is shown in too many tests
+  series        fixed forms of one plan, as `shadowd series` prints them
   custody       makes a folder with all files of a window, and checks one
   audit         audits a journal, apart from the program; seals a journal
   tree          checks one proof tree
   series-check  checks what `shadowd series` printed
 
-Exit status: that of the command; 2 for a command that is none of these.
+A command that takes long shows every five seconds on standard error that it lives, where that is a terminal. With the word --progress
+it does so elsewhere too, and with --quiet nowhere; each command takes both.
+
+Exit status: that of the command; 2 for a command that is none of these; 130 after Ctrl-C.
 """
 import ast
 import importlib
@@ -22,14 +26,17 @@ import re
 import sys
 from typing import Sequence
 
+from shadowtools import alive
 from shadowtools.command import as_command
 
 # The module of each command, and the name of its script in tools/.
 COMMANDS = {
     "bank": "agency.irt_bank", "simulate": "agency.simulate", "report": "agency.report", "score": "agency.score",
     "explain": "agency.explain", "custody": "agency.custody_folder", "rate": "agency.rate",
-    "audit": "checkers.audit", "tree": "checkers.check_tree",
+    "series": "agency.series", "audit": "checkers.audit", "tree": "checkers.check_tree",
     "series-check": "checkers.check_series"}
+# Commands that note how many answers are given, which shows that they live.
+COUNT_ANSWERS = ("simulate", "rate")
 # Options by which a command has another page of help.
 PAGES = {("report", "--journal"): "agency.window_report", ("report", "--prices"): "agency.price"}
 SCRIPTS = {module.rpartition(".")[2]: name for name, module in COMMANDS.items()}
@@ -50,6 +57,7 @@ def main(words: Sequence[str]) -> int:
     if words and words[0] in ("-h", "--help"):
         print(__doc__)
         return 0
+    words, wanted = alive.without_its_words(words)
     if not words or words[0] not in COMMANDS:
         print(__doc__ if not words else f"shadow: no command {words[0]!r}; it has {', '.join(COMMANDS)}", file=sys.stderr)
         return 2
@@ -57,7 +65,12 @@ def main(words: Sequence[str]) -> int:
     if "-h" in rest or "--help" in rest:
         print(help_of(command, rest))
         return 0
-    return importlib.import_module("shadowtools." + COMMANDS[command]).command(rest)
+    alive.PULSE.wanted = wanted
+    called = importlib.import_module("shadowtools." + COMMANDS[command]).command
+    if command in COUNT_ANSWERS:
+        return called(rest)
+    with alive.shown(f"shadow {command}"):
+        return called(rest)
 
 
 command = as_command(main)

@@ -30,7 +30,7 @@ class Stopped(Refused):
 
 
 class Progress:
-    """Tells how many answers were given, at most every few seconds."""
+    """Tells how many answers were given, and how long the others may take at the same pace, at most every few seconds."""
 
     def __init__(self, answers: int, tell: Callable[[str], None], pause: float = 5.0) -> None:
         self.answers, self.tell, self.pause = answers, tell, pause
@@ -40,7 +40,8 @@ class Progress:
         now = time.perf_counter()
         if now - self.told >= self.pause:
             self.told = now
-            self.tell(f"{given} of {self.answers} answers, {now - self.begun:.0f} s")
+            left = f", some {(now - self.begun) * (self.answers - given) / given:.0f} s left" if 0 < given <= self.answers else ""
+            self.tell(f"{given} of {self.answers} answers, {now - self.begun:.0f} s{left}")
 
 
 @dataclass

@@ -8,6 +8,7 @@ import tempfile
 from dataclasses import dataclass
 from typing import List, Optional, Sequence, Tuple
 
+from shadowtools.alive import shown
 from shadowtools.command import Refused
 from shadowtools.formats.tables import text_of
 
@@ -84,7 +85,8 @@ def run(program: str, command: str, bank: str, plan: str, journal: Optional[str]
     """Status and output of a command of shadowd; `more` are its words after bank and plan."""
     environment = dict(os.environ, SHADOWD_JOURNAL=journal) if journal else None
     try:
-        done = subprocess.run([program, command, bank, plan, *more], env=environment, stdin=subprocess.DEVNULL, capture_output=True)
+        with shown(f"shadowd {command}"):
+            done = subprocess.run([program, command, bank, plan, *more], env=environment, stdin=subprocess.DEVNULL, capture_output=True)
     except (OSError, ValueError) as error:
         raise Refused(f"{program}: {getattr(error, 'strerror', None) or error}")
     return done.returncode, done.stdout.decode("utf-8", "replace").strip()

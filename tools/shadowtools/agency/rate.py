@@ -39,6 +39,7 @@ from shadowtools.agency.drivers import Progress, Server, by_turns  # noqa: E402
 from shadowtools.agency.simulate import MEMORY, MOST_SESSIONS, roomy, with_base  # noqa: E402
 from shadowtools.agency.simulation import (  # noqa: E402
     MOST_SEED, Examination, drawn_responses, grid_sums, load, prior_on)
+from shadowtools.alive import tell  # noqa: E402
 from shadowtools.command import Refused, as_command  # noqa: E402
 from shadowtools.formats.examination import Session, band_of, read_journal, sessions_of  # noqa: E402
 from shadowtools.formats.tables import text_of  # noqa: E402
@@ -130,7 +131,7 @@ class Study:
 
     def through(self, plan: str, journal: str, responses: np.ndarray) -> None:
         given = self.given
-        progress = Progress(len(responses) * self.examination.plan.length, lambda text: print(text, file=sys.stderr, flush=True))
+        progress = Progress(len(responses) * self.examination.plan.length, tell)
         server = Server(os.path.abspath(given.program), self.examination.files()[0], plan, journal, 1)
         try:
             by_turns(server, range(len(responses)), dict(enumerate(responses)), given.group, progress)

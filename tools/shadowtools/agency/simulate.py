@@ -61,6 +61,7 @@ from shadowtools.agency.retakers import retakes_of, summary  # noqa: E402
 from shadowtools.agency.simulation import (  # noqa: E402
     MOST_SEED, SECOND_SITTING, Examination, abilities, abilities_of, band_names, broken_rules, drawn_responses, load, middles,
     retakers_of, rules_of)
+from shadowtools.alive import tell  # noqa: E402
 from shadowtools.command import Refused, as_command  # noqa: E402
 from shadowtools.formats.examination import Session, read_journal, require_points  # noqa: E402
 from shadowtools.formats.exposure import Exposure, differs, exposure_of  # noqa: E402
@@ -150,8 +151,7 @@ def taken_through(given: argparse.Namespace, examination: Examination, stage: St
     """Takes the sessions of a stage through; plan and journal are in the folder."""
     bank, plan, journal = examination.files()[0], os.path.join(folder, "plan.txt"), os.path.join(folder, "journal")
     sittings = stage.sittings
-    progress = Progress(len(sittings.bookings) * examination.plan.length,
-                        lambda text: print(text, file=sys.stderr, flush=True))
+    progress = Progress(len(sittings.bookings) * examination.plan.length, tell)
     if given.through == "replay":
         replay = Replay(os.path.abspath(given.program), bank, plan, journal, folder)
         group = given.group or (25 if controlled(examination) else len(sittings.bookings))

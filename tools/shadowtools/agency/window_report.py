@@ -26,7 +26,6 @@ Exit status: 0; 1 where a file is refused, the two audits do not agree, a seal i
 import argparse
 import csv
 import os
-import sys
 from typing import Callable, Dict, List, Optional, Sequence, Tuple
 
 import numpy as np
@@ -39,6 +38,7 @@ from shadowtools.agency.scoring import Scorer
 from shadowtools.agency.simulation import MOST_SEED, Examination, load
 from shadowtools.agency.window import (Beside, Window, agreement_of, audits_of, read_annulled, read_persons, read_times,
                                        reliability_of, retests_of, seals_of, second_levels)
+from shadowtools.alive import tell  # noqa: F401  report.py has it from here
 from shadowtools.command import Refused
 from shadowtools.formats.examination import Session, opened, read_journal
 from shadowtools.formats.exposure import Exposure, exposure_of
@@ -245,7 +245,3 @@ def write_report(given: argparse.Namespace, found: Findings, text: str) -> int:
     print(f"{given.to}: {len(window.sessions)} sessions, {len(window.complete)} complete, {len(window.broken)} broken rules, audits "
           f"{'agree' if found.audits.agree else 'DISAGREE'}")
     return 0 if found.holds else 1
-
-
-def tell(line: str) -> None:
-    print(line, file=sys.stderr, flush=True)
