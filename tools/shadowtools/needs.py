@@ -3,7 +3,7 @@ import importlib.util
 import sys
 
 DEBIAN = {"numpy": "python3-numpy", "scipy": "python3-scipy", "matplotlib": "python3-matplotlib",
-          "pandas": "python3-pandas", "jinja2": "python3-jinja2"}
+          "pandas": "python3-pandas", "jinja2": "python3-jinja2", "distributed": "python3-distributed"}
 
 
 def is_there(*modules: str) -> bool:

@@ -69,7 +69,7 @@ class Estimates(unittest.TestCase):
     def test_of_the_end(self):
         """A third of the answers took ten seconds: the others take twenty."""
         said = []
-        progress = Progress(300, said.append, 5.0)
+        progress = Progress(300, said.append)
         for now, given in ((4.0, 50), (10.0, 100), (12.0, 110), (20.0, 0), (30.0, 300)):
             with mock.patch("shadowtools.agency.drivers.time.perf_counter", lambda now=now: progress.begun + now):
                 progress.note(given)

@@ -25,6 +25,9 @@ WITHOUT_FORM = ("no-form", "none-found")
 LISTENING = re.compile(r"listening on ([0-9.]+):(\d+)")
 
 
+PAUSE = 5.0     # seconds between two lines on progress
+
+
 class Stopped(Refused):
     """The simulation cannot go on: a refusal, another status, or a broken connection, with its place."""
 
@@ -32,13 +35,13 @@ class Stopped(Refused):
 class Progress:
     """Tells how many answers were given, and how long the others may take at the same pace, at most every few seconds."""
 
-    def __init__(self, answers: int, tell: Callable[[str], None], pause: float = 5.0) -> None:
-        self.answers, self.tell, self.pause = answers, tell, pause
+    def __init__(self, answers: int, tell: Callable[[str], None]) -> None:
+        self.answers, self.tell = answers, tell
         self.begun = self.told = time.perf_counter()
 
     def note(self, given: int) -> None:
         now = time.perf_counter()
-        if now - self.told >= self.pause:
+        if now - self.told >= PAUSE:
             self.told = now
             left = f", some {(now - self.begun) * (self.answers - given) / given:.0f} s left" if 0 < given <= self.answers else ""
             self.tell(f"{given} of {self.answers} answers, {now - self.begun:.0f} s{left}")

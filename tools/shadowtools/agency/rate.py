@@ -36,7 +36,8 @@ import numpy as np  # noqa: E402
 
 from shadowtools.agency import band_points  # noqa: E402
 from shadowtools.agency.drivers import Progress, Server, by_turns  # noqa: E402
-from shadowtools.agency.simulate import MEMORY, MOST_SESSIONS, roomy, with_base  # noqa: E402
+from shadowtools.agency.parts import memory  # noqa: E402
+from shadowtools.agency.simulate import MOST_SESSIONS, roomy, with_base  # noqa: E402
 from shadowtools.agency.simulation import (  # noqa: E402
     MOST_SEED, Examination, drawn_responses, grid_sums, load, prior_on)
 from shadowtools.alive import tell  # noqa: E402
@@ -121,7 +122,7 @@ class Study:
         where = np.random.default_rng([seed, 7]).permutation(np.arange(number) % len(self.abilities))
         responses = drawn_responses(self.examination.items, np.array(self.abilities)[where], self.examination.scaling, seed)
         key = hashlib.sha256(f"shadow rate {seed}".encode()).hexdigest()
-        with tempfile.TemporaryDirectory(dir=MEMORY if os.access(MEMORY, os.W_OK) else None) as folder:
+        with tempfile.TemporaryDirectory(dir=memory()) as folder:
             plan, journal = os.path.join(folder, "plan.txt"), os.path.join(folder, "journal")
             with open(plan, "w", encoding="utf-8") as file:
                 file.write(plan_with(self.plan, rate, self.points, key))

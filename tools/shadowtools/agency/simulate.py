@@ -18,7 +18,11 @@ usage: simulate.py PREFIX --out OUT [options]      PREFIX.bank.csv, PREFIX.plan.
                     of the first, after all first sittings. Its answers are drawn anew: nobody remembers an item, or has learnt
   --no-lists        begins the second sittings with no list, for the same persons with the same answers
   --through WAY     replay (default) or serve: rounds of `shadowd replay`, or HTTP against `shadowd serve`
-  --group N         examinees at once through replay; default all, and 25 where the plan has an exposure rate, since
+  --part N          examinees in a part, default 250: each part goes through replay by itself, and the parts' journals are joined to the
+                    same bytes on any number of workers. Not where the plan has an exposure rate, whose draws see the sessions before
+  --workers N       parts at once; default as many as this machine has processors
+  --cluster ADDRESS the parts on the workers of a Dask cluster (python3-distributed), as tcp://10.0.0.7:8786, in the place of --workers
+  --group N         examinees at once through one replay after another, with no parts; default 25 where the plan has an exposure rate, since
                     the draws of a session see only sessions that are finished
   --clients N       connections at once through serve, 1 to 16; default 4
   --rules PLAN      the rules that are counted; default those of the plan
@@ -28,7 +32,8 @@ usage: simulate.py PREFIX --out OUT [options]      PREFIX.bank.csv, PREFIX.plan.
 Written: OUT.journal, the journal; OUT.second.journal, which goes on with it by the second sittings; OUT.tails.journal, that of
 the tails, which goes on with the first where the plan has an exposure rate; OUT.run.json, the examinees, how they were taken
 through, and the SHA-256 of bank, plan, map, program and journals. report.py reads all. The journal is kept in memory (/dev/shm,
-where there is one) until the end, so that no disk is waited for. The answers of an examinee are drawn beforehand for every item.
+where there is one) until the end, so that no disk is waited for; a part that is done is kept as OUT.part-K.journal until all are, so the
+same command after an interruption goes on with the other parts. The answers of an examinee are drawn beforehand for every item.
 At the end the journals are read, the items of each session are held against every rule of the plan by a reader that shares
 nothing with the product, and the program's exposure counts against those of the journal: in all, and where the plan has bands
 also those of the bands, which are printed. Each draw of eligible items is made anew for that. Of retakers two lines are printed:
@@ -54,8 +59,10 @@ require("simulate.py", "numpy")
 import numpy as np  # noqa: E402
 
 from shadowtools.agency.custody import said_by, sha256_of  # noqa: E402
+from shadowtools.agency import parts as in_parts  # noqa: E402
 from shadowtools.agency.drivers import (  # noqa: E402
     Progress, Replay, Server, Sittings, Stopped, by_http, by_replay, replay_exposure)
+from shadowtools.agency.parts import memory  # noqa: E402
 from shadowtools.agency.program import form_of, run  # noqa: E402
 from shadowtools.agency.retakers import retakes_of, summary  # noqa: E402
 from shadowtools.agency.simulation import (  # noqa: E402
@@ -65,12 +72,12 @@ from shadowtools.alive import tell  # noqa: E402
 from shadowtools.command import Refused, as_command  # noqa: E402
 from shadowtools.formats.examination import Session, read_journal, require_points  # noqa: E402
 from shadowtools.formats.exposure import Exposure, differs, exposure_of  # noqa: E402
-from shadowtools.formats.tables import runs  # noqa: E402
+from shadowtools.formats.tables import runs, text_of  # noqa: E402
 from shadowtools.options import Options, between, require_folder, whole  # noqa: E402
 from shadowtools.places import BUILT, revision  # noqa: E402
 
 MOST_SESSIONS, MOST_BYTES = 65_536, 536_870_912
-MEMORY = "/dev/shm"
+PART = 250          # examinees in a part
 TAILS = (-3, -2.5, -2, 2, 2.5, 3)    # standard deviations
 
 
@@ -90,6 +97,9 @@ def options(words: Sequence[str]) -> argparse.Namespace:
         parser.add_argument("--" + name, action="store_true")
     parser.add_argument("--through", choices=("replay", "serve"), default="replay")
     parser.add_argument("--group", type=whole(1, MOST_SESSIONS))
+    parser.add_argument("--part", type=whole(1, MOST_SESSIONS))
+    parser.add_argument("--workers", type=whole(1, 256))
+    parser.add_argument("--cluster")
     parser.add_argument("--clients", type=whole(1, 16), default=4)
     parser.add_argument("--program", default=BUILT)
     return parser.read(words, lambda found: bool(found.prefix and found.out))
@@ -167,6 +177,46 @@ def taken_through(given: argparse.Namespace, examination: Examination, stage: St
         server.process.kill()
 
 
+def is_in_parts(given: argparse.Namespace, examination: Examination, stage: Stage) -> bool:
+    """Whether a stage is taken through in parts: its sessions depend neither on one another nor on those of another stage."""
+    return given.through == "replay" and not given.group and not controlled(examination) and stage.after is None
+
+
+def taken_in_parts(given: argparse.Namespace, examination: Examination, stage: Stage, plan: str) -> None:
+    """Takes the sessions of a stage through in parts, and writes their journal."""
+    sittings, size = stage.sittings, given.part or PART
+    program, bank = os.path.abspath(given.program), text_of(examination.files()[0])
+    digest = sha256_of(program)
+    bookings = [sittings.bookings[first:first + size] for first in range(0, len(sittings.bookings), size)]
+    parts = [in_parts.Part(program, digest, bank, plan, len(examination.items), {one: list(map(int, sittings.responses[one])) for one in own})
+             for own in bookings]
+    if os.path.exists(stage.journal):
+        os.unlink(stage.journal)
+    kept = in_parts.Kept(stage.journal.removesuffix(".journal"))
+    progress = Progress(len(sittings.bookings) * examination.plan.length, tell)
+    executor = in_parts.cluster(given.cluster) if given.cluster else in_parts.local(given.workers or os.cpu_count() or 1)
+    with executor:
+        done = list(in_parts.take_parts(parts, kept, executor, progress.note, not given.cluster))
+    kept.replace(stage.journal, in_parts.joined(one.journal for one in done))
+    kept.remove()
+    stage.seconds = [pair for one in done for pair in one.seconds]
+    stage.exposure = in_parts.summed([one.exposure for one in done])
+    stage.said = f"{len(stage.seconds)} runs of replay" + (f" in {len(done)} parts" if len(done) > 1 else "")
+
+
+def require_parts(given: argparse.Namespace, examination: Examination) -> None:
+    """Refuses options of parts where the sessions are one chain."""
+    for name in ("part", "workers", "cluster"):
+        if getattr(given, name) is None:
+            continue
+        for beside in ["--through serve"] * (given.through == "serve") + ["--group"] * bool(given.group):
+            raise Refused(f"--{name} is not used beside {beside}, by which the sessions are one chain")
+        if controlled(examination):
+            raise Refused(f"--{name}: the plan has an exposure rate, whose draws see the sessions before; one study is one chain")
+    if given.cluster and given.workers:
+        raise Refused("--workers is not used beside --cluster, which has workers of its own")
+
+
 def controlled(examination: Examination) -> bool:
     return examination.plan.rate[0] < examination.plan.rate[1]
 
@@ -208,9 +258,8 @@ def lists_of(first: Stage, second: Sittings, retakers: Sequence[int]) -> Dict[in
 
 def take(given: argparse.Namespace, examination: Examination, stages: Sequence[Stage], retakers: Sequence[int]) -> None:
     """Takes all stages through, and keeps and reads the journal of each."""
-    with tempfile.TemporaryDirectory(dir=MEMORY if os.access(MEMORY, os.W_OK) else None) as folder:
-        with open(examination.files()[1], encoding="utf-8") as file:
-            text = with_base(given.program, examination.files(), roomy(file.read()))
+    with tempfile.TemporaryDirectory(dir=memory()) as folder:
+        text = with_base(given.program, examination.files(), roomy(text_of(examination.files()[1])))
         with open(os.path.join(folder, "plan.txt"), "w", encoding="utf-8") as file:
             file.write(text)
         journal = os.path.join(folder, "journal")
@@ -221,10 +270,13 @@ def take(given: argparse.Namespace, examination: Examination, stages: Sequence[S
                 shutil.copyfile(stage.after.journal, journal)
             if stage.name == "second" and not given.no_lists:
                 stage.sittings.lists = lists_of(stages[0], stage.sittings, retakers)
-            try:
-                taken_through(given, examination, stage, folder)
-            finally:
-                keep(journal, stage.journal)
+            if is_in_parts(given, examination, stage):
+                taken_in_parts(given, examination, stage, text)
+            else:
+                try:
+                    taken_through(given, examination, stage, folder)
+                finally:
+                    keep(journal, stage.journal)
             stage.counts = exposure_of(read_journal(stage.journal), examination.bank, examination.plan, given.watch)
             stage.sessions = stage.counts.sessions
 
@@ -308,6 +360,7 @@ def main(words: Sequence[str]) -> int:
     for end in (".journal", ".second.journal", ".tails.journal", ".run.json"):
         require_folder("--out", given.out + end)
     examination = load(given.prefix, given.unbound)
+    require_parts(given, examination)
     given.true = given.true or ["normal", *(f"{number:g}" for number in examination.expected)]
     tails, rules = tails_of(given, examination), rules_of(given.rules, examination)
     require_points(given.watch or [], len(examination.theta), "--watch")
