@@ -7,12 +7,14 @@ PREFIX.* are irt_bank.py's files and OUT.* simulate.py's. Each HiGHS test estima
 from exact parameters, once by the mean (EAP) and once by the mode, assembles a whole form at the estimate with a
 relative gap of 1e-9, and serves its most informative item. Plans with passages are not taken. Needs python3-scipy.
 """
-import argparse
 import os
 import sys
 import time
 
 sys.path.insert(0, os.path.join(os.path.dirname(os.path.dirname(os.path.abspath(__file__))), "tools"))
+if sys.argv[1:] in (["--help"], ["-h"]):
+    print(__doc__.strip())
+    sys.exit(0)
 try:
     import numpy as np
     from scipy.optimize import Bounds, LinearConstraint, milp
@@ -20,6 +22,7 @@ except ImportError:
     sys.exit("shadow_tests.py needs numpy and scipy: apt-get install python3-scipy, and run it by /usr/bin/python3")
 
 from examination import read_journal, sessions_of  # noqa: E402
+from shadowtools.options import Options, whole  # noqa: E402
 from simulation import FINE, drawn_responses, estimates, load, prior_on, read_run  # noqa: E402
 
 
@@ -90,11 +93,11 @@ def row(name, found, theta, examination, sessions):
 
 
 def main():
-    parser = argparse.ArgumentParser(usage=__doc__.partition("usage: ")[2], add_help=False)
-    parser.add_argument("prefix")
-    parser.add_argument("--run", required=True)
-    parser.add_argument("--examinees", type=int, default=200)
-    given = parser.parse_args()
+    parser = Options(__doc__)
+    parser.add_argument("prefix", nargs="?")
+    parser.add_argument("--run")
+    parser.add_argument("--examinees", type=whole(1, 65_536), default=200)
+    given = parser.read(sys.argv[1:], lambda found: bool(found.prefix and found.run))
     examination, run = load(given.prefix), read_run(given.run + ".run.json")
     theta = np.array(run["true"])
     responses = drawn_responses(examination.items, theta, examination.scaling, run["seed"])
