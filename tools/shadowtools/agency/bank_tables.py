@@ -1,6 +1,4 @@
 """A bank as whole numbers: the ability points, the prior, the tables of information and log-likelihood, and what rounding costs."""
-import csv
-import io
 import math
 from typing import List, Optional, Sequence, Tuple
 
@@ -10,6 +8,7 @@ from shadowtools.agency.expected import Expected
 from shadowtools.agency.irt import FIELD, Item
 from shadowtools.command import Refused
 from shadowtools.formats.tables import is_number
+from shadowtools.formats.written import table_text
 
 MOST_POINTS, MOST_INFORMATION, LEAST_LOG, FARTHEST = 61, 1_000_000, -10_000_000, 100
 # Shares of the prior: on the grid, where below the first it is refused and below the second there is a warning; and at ends of the grid
@@ -104,15 +103,13 @@ class Tables:
     def text(self) -> str:
         """The bank as shadowd reads it."""
         points, width = len(self.theta), max(item.categories for item in self.items)
-        out = io.StringIO()
-        writer = csv.writer(out, lineterminator="\n")
-        writer.writerow(["item", "stimulus", "categories"] + [f"q{k}" for k in range(len(self.quantities))]
-                        + [f"i{g}" for g in range(points)] + [f"l{r}_{g}" for r in range(width) for g in range(points)])
+        rows = [["item", "stimulus", "categories"] + [f"q{k}" for k in range(len(self.quantities))]
+                + [f"i{g}" for g in range(points)] + [f"l{r}_{g}" for r in range(width) for g in range(points)]]
         for k, item in enumerate(self.items):
             empty = [""] * (points * (width - item.categories))
-            writer.writerow([k, item.passage, item.categories] + [values[k] for values in self.quantities]
-                            + self.information(item).tolist() + self.logs(item).ravel().tolist() + empty)
-        return out.getvalue()
+            rows.append([k, item.passage, item.categories] + [values[k] for values in self.quantities]
+                        + self.information(item).tolist() + self.logs(item).ravel().tolist() + empty)
+        return table_text(rows)
 
 
 # ---------------------------------------------------------------- warnings

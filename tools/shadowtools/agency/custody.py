@@ -5,7 +5,6 @@ that read them later read all three by `read_documents`. It refuses a file that 
 computes the bank and the prior again from the map.
 """
 import hashlib
-import json
 import os
 import re
 from dataclasses import dataclass
@@ -17,6 +16,7 @@ from shadowtools.checkers import audit, mutate_bank, text_readers
 from shadowtools.command import Refused
 from shadowtools.formats.examination import BankItem, Plan, opened, read_bank, read_map, read_plan, require_agreement
 from shadowtools.formats.tables import text_of
+from shadowtools.formats.written import json_text
 
 CURE = "use the files that irt_bank.py wrote together"
 # The remark by which a plan names its map.
@@ -51,7 +51,7 @@ def map_digest(scale_map: Dict[str, Any]) -> str:
     """The SHA-256 of a map, in hexadecimal, by which its plan names it: of the map's JSON without the member `sha256`, which has that
     of the plan. The JSON is in UTF-8, without spaces, its members in the order of their names."""
     named = {name: value for name, value in scale_map.items() if name != "sha256"}
-    text = json.dumps(named, ensure_ascii=False, sort_keys=True, separators=(",", ":"))
+    text = json_text(named, in_order_of_names=True, is_compact=True)
     return hashlib.sha256(text.encode("utf-8", "surrogatepass")).hexdigest()
 
 

@@ -35,7 +35,6 @@ texts. With these nothing is written. 11 where no set of items meets the constra
 """
 import argparse
 import hashlib
-import json
 import math
 import os
 import re
@@ -64,6 +63,7 @@ from shadowtools.agency.series_weights import weights_of, word_of  # noqa: E402
 from shadowtools.command import Refused, as_command  # noqa: E402
 from shadowtools.formats.examination import plan_of, read_bank  # noqa: E402
 from shadowtools.formats.tables import SEPARATORS, Dialect  # noqa: E402
+from shadowtools.formats.written import json_text, write  # noqa: E402
 from shadowtools.options import Options, between, require_folder, whole  # noqa: E402
 from shadowtools.places import BUILT  # noqa: E402
 
@@ -171,19 +171,11 @@ def texts_of(given: argparse.Namespace, tables: Tables, blueprint: Blueprint, po
     bank, scale_map = tables.text(), map_of(given, tables, blueprint)
     plan = plan_text(given, tables, blueprint, map_digest(scale_map), points)
     scale_map["sha256"] = {"bank": digest_of(bank), "plan": digest_of(plan)}
-    return bank, plan, json.dumps(scale_map, indent=1, ensure_ascii=False) + "\n"
+    return bank, plan, json_text(scale_map, indent=1) + "\n"
 
 
 def digest_of(text: str) -> str:
     return hashlib.sha256(text.encode("utf-8")).hexdigest()
-
-
-def write(path: str, text: str) -> None:
-    try:
-        with open(path, "w", encoding="utf-8", newline="\n") as file:
-            file.write(text)
-    except OSError as error:
-        raise Refused(f"{path}: {error.strerror}")
 
 
 # ---------------------------------------------------------------- the program's own check

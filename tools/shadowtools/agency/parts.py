@@ -20,6 +20,7 @@ from shadowtools.agency.custody import sha256_of
 from shadowtools.agency.drivers import Replay, Sittings, Stopped, by_replay, replay_exposure
 from shadowtools.command import Refused
 from shadowtools.formats.examination import payloads_of
+from shadowtools.formats.written import json_text
 from shadowtools.needs import require
 
 MEMORY = "/dev/shm"
@@ -52,7 +53,7 @@ class Part:
     def digest(self) -> str:
         """The SHA-256 of all that decides the part's journal."""
         found = [self.sha256, self.bank, self.plan, self.items, [[booking, list(row)] for booking, row in self.responses.items()]]
-        return hashlib.sha256(json.dumps(found).encode()).hexdigest()
+        return hashlib.sha256(json_text(found, in_ascii=True).encode()).hexdigest()
 
 
 @dataclass(frozen=True)
@@ -150,7 +151,7 @@ class Kept:
         self.replace(self.path(number), done.journal)
         self.rows[str(number)] = {"of": part.digest(), "sha256": hashlib.sha256(done.journal).hexdigest(), "seconds": done.seconds,
                                   "exposure": done.exposure}
-        self.replace(self.index, json.dumps(self.rows, allow_nan=False).encode())
+        self.replace(self.index, json_text(self.rows, in_ascii=True).encode())
 
     def replace(self, path: str, data: bytes) -> None:
         try:

@@ -34,7 +34,6 @@ writes. check_series.py judges the lines and their trees. Beside the page is wri
 form. Exit status: 0; 1 where the files are refused or a rule is broken.
 """
 import argparse
-import csv
 import datetime
 import os
 import sys
@@ -53,7 +52,6 @@ from shadowtools.agency.custody import sha256_of  # noqa: E402
 from shadowtools.agency.custody_folder import has_draws, warn_of_later  # noqa: E402
 from shadowtools.agency.expected import unit_of  # noqa: E402
 from shadowtools.agency.retakers import Retakes, retakes_of  # noqa: E402
-from shadowtools.agency.score import table_text, write  # noqa: E402
 from shadowtools.agency.scoring import (OPTIONS, SHORT_NAMES, Scorer, add_reporting, reporting_of,  # noqa: E402
                                         reporting_of_record)
 from shadowtools.agency.series_weights import read_weights  # noqa: E402
@@ -62,6 +60,7 @@ from shadowtools.command import Refused, as_command  # noqa: E402
 from shadowtools.formats.examination import Session, read_journal, require_points  # noqa: E402
 from shadowtools.formats.exposure import Exposure, exposure_of  # noqa: E402
 from shadowtools.formats.tables import text_of  # noqa: E402
+from shadowtools.formats.written import table_text, write  # noqa: E402
 from shadowtools.options import Options, finite, require_folder, whole  # noqa: E402
 from shadowtools.page import appeal as appeal_page, price as price_page, series as series_page, window as window_page  # noqa: E402
 from shadowtools.page.checker import policy_of, require_size  # noqa: E402
@@ -215,13 +214,8 @@ def page_of_series(given: argparse.Namespace) -> int:
     text = page(given.template, f"Fixed forms: {os.path.basename(given.prefix)}", lead, series_page.verdicts(series),
                 series_page.sections(series, facts, digests))
     head, rows = series_page.table_by_item(series)
-    try:
-        with open(given.to, "w", encoding="utf-8") as file:
-            file.write(text)
-        with open(table, "w", encoding="utf-8", newline="") as file:
-            csv.writer(file, lineterminator="\n").writerows([head, *rows])
-    except OSError as error:
-        raise Refused(f"{error.filename}: {error.strerror}")
+    write(given.to, text)
+    write(table, table_text([head, *rows]))
     bad = series_page.broken(series)
     print(f"{given.to}: {len(series.forms)} forms, value {series.value}, {'proved' if series.is_proved else 'unproved'}, {len(bad)} broken rules")
     return 1 if bad else 0

@@ -45,10 +45,7 @@ The error of a level is the share of the posterior outside of it (eap, mode) or 
 (wle, mle; Rudner 2001). The mode is rounded to a point of the grid; the mean is not. Exit status: 0, or 1 where a file is refused.
 """
 import argparse
-import csv
 import hashlib
-import io
-import json
 import sys
 from collections import Counter
 from typing import Dict, Iterator, List, Optional, Sequence, Tuple
@@ -59,6 +56,7 @@ from shadowtools.agency.sheets import require_empty, write_sheets
 from shadowtools.command import Refused, as_command, print_utf8
 from shadowtools.formats.examination import Session, read_journal, sessions_of
 from shadowtools.formats.tables import runs, text_of
+from shadowtools.formats.written import json_text, table_text, write
 from shadowtools.options import Options, require_folder, whole
 from shadowtools.places import BUILT
 
@@ -188,12 +186,6 @@ def require_own(sessions: Sequence[Session], documents: Documents, given: argpar
 
 # ---------------------------------------------------------------- what is written
 
-def table_text(rows: Sequence[Sequence[str]]) -> str:
-    out = io.StringIO()
-    csv.writer(out, lineterminator="\n").writerows(rows)
-    return out.getvalue()
-
-
 def answers_text(sessions: Sequence[Session], documents: Documents) -> str:
     names = [item["id"] for item in documents.map["items"]]
     rows = [["session", "booking", "step", "item", "response"]]
@@ -215,17 +207,9 @@ def record_text(given: argparse.Namespace, documents: Documents, audit: Optional
     digests = dict(documents.sha256, **{name: sha256_of(path) for name, path in sources.items() if path})
     digests["results"] = hashlib.sha256(result.encode("utf-8", "surrogatepass")).hexdigest()
     asked = dict(vars(given.reporting), least=given.least, open=given.open, unbound=given.unbound)
-    return json.dumps({"sha256": digests, "audit": audit, "options": asked, "levels_of": "the score as it is printed",
-                       "sessions": dict(Counter(row[2] for row in rows)),
-                       "levels": dict(Counter(row[12] for row in rows if row[12]))}, indent=1, ensure_ascii=False) + "\n"
-
-
-def write(path: str, text: str) -> None:
-    try:
-        with open(path, "w", newline="", encoding="utf-8") as file:
-            file.write(text)
-    except OSError as error:
-        raise Refused(f"{path}: {error.strerror}")
+    return json_text({"sha256": digests, "audit": audit, "options": asked, "levels_of": "the score as it is printed",
+                      "sessions": dict(Counter(row[2] for row in rows)),
+                      "levels": dict(Counter(row[12] for row in rows if row[12]))}, indent=1) + "\n"
 
 
 def main(words: Sequence[str]) -> int:

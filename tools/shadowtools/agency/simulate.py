@@ -42,7 +42,6 @@ broken rule, a refusal or another status.
 """
 import argparse
 import datetime
-import json
 import os
 import re
 import shutil
@@ -73,6 +72,7 @@ from shadowtools.command import Refused, as_command  # noqa: E402
 from shadowtools.formats.examination import Session, read_journal, require_points  # noqa: E402
 from shadowtools.formats.exposure import Exposure, differs, exposure_of  # noqa: E402
 from shadowtools.formats.tables import runs, text_of  # noqa: E402
+from shadowtools.formats.written import json_text, write  # noqa: E402
 from shadowtools.options import Options, between, require_folder, whole  # noqa: E402
 from shadowtools.places import BUILT, revision  # noqa: E402
 
@@ -331,11 +331,7 @@ def write_run(given: argparse.Namespace, examination: Examination, theta: np.nda
            "date": datetime.datetime.now(datetime.timezone.utc).strftime("%Y-%m-%d %H:%M UTC"), "revision": revision(),
            "sha256": digests, "retakers": list(retakers), "lists": not given.no_lists,
            "refused": {booking: word for stage in stages for booking, word in sorted(stage.sittings.refused.items())}}
-    try:
-        with open(given.out + ".run.json", "w", encoding="utf-8") as file:
-            json.dump(found, file)
-    except OSError as error:
-        raise Refused(f"{given.out}.run.json: {error.strerror}")
+    write(given.out + ".run.json", json_text(found, in_ascii=True))
     return found
 
 
