@@ -25,9 +25,15 @@ except ImportError:
 needs_dask = unittest.skipUnless(is_there("distributed"), "needs python3-distributed")
 # The program; it notes each run of replay, and ends with the status of the file `fails` where a script has the line of `at`.
 NOTING = f"""#!/bin/sh
+here=$(dirname "$0")
 if [ "$1" = replay ]; then
-    head -n 1 "$4" >> runs
-    if [ -e fails ] && grep -q -x -f at "$4"; then read status < fails; [ "$status" != sleep ] || exec sleep 60; echo disk failed; exit "$status"; fi
+    head -n 1 "$4" >> "$here/runs"
+    if [ -e "$here/fails" ] && grep -q -x -f "$here/at" "$4"; then
+        read status < "$here/fails"
+        [ "$status" != sleep ] || exec sleep 60
+        echo disk failed
+        exit "$status"
+    fi
 fi
 exec "{PROGRAM}" "$@"
 """
