@@ -1,7 +1,9 @@
 """What the tests of the tools share: running a tool in a folder of its own, and what is there to test with."""
 import contextlib
+import http.client
 import importlib
 import io
+import json
 import os
 import tempfile
 import unittest
@@ -15,6 +17,14 @@ needs_scipy = unittest.skipUnless(is_there("numpy", "scipy"), "needs python3-num
 PAGE = ("numpy", "scipy", "matplotlib", "pandas", "jinja2")
 needs_page = unittest.skipUnless(is_there(*PAGE), "needs " + ", ".join("python3-" + name for name in PAGE))
 needs_program = unittest.skipUnless(os.path.exists(PROGRAM), "needs the built program")
+
+
+def asked(port, method, path, body=None, limit=60, fields=None):
+    """The status and the JSON of a response, over a connection of its own to a server on this machine."""
+    with contextlib.closing(http.client.HTTPConnection("127.0.0.1", port, timeout=limit)) as connection:
+        connection.request(method, path, None if body is None else json.dumps(body), fields or {})
+        response = connection.getresponse()
+        return response.status, json.loads(response.read())
 
 
 class Folder(unittest.TestCase):

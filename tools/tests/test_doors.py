@@ -1,7 +1,5 @@
 """The doors of the built program: clients that dawdle, messages in parts, the queue of the listener, the end that is asked for, silent connections at `follow`."""
 import contextlib
-import http.client
-import json
 import os
 import re
 import select
@@ -12,7 +10,7 @@ import subprocess
 import threading
 import time
 
-from common import PROGRAM, ROOT, Folder, needs_program
+from common import PROGRAM, ROOT, Folder, asked, needs_program
 
 DATA = os.path.join(ROOT, "crates", "shadowd", "data")
 FILES = [os.path.join(DATA, name) for name in ("bank.csv", "plan.txt")]
@@ -80,13 +78,7 @@ class Doors(Folder):
         return connection
 
     def asked(self, port, method, path, body=None, limit=LIMIT):
-        connection = http.client.HTTPConnection("127.0.0.1", port, timeout=limit)
-        try:
-            connection.request(method, path, None if body is None else json.dumps(body), {"Connection": "close"})
-            response = connection.getresponse()
-            return response.status, json.loads(response.read())
-        finally:
-            connection.close()
+        return asked(port, method, path, body, limit, {"Connection": "close"})
 
 
 @needs_program

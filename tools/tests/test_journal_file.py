@@ -1,6 +1,4 @@
 """The journal's file of the built program: its rights, its folder, what is cut from it, and other programs at it."""
-import http.client
-import json
 import os
 import re
 import resource
@@ -12,7 +10,7 @@ import unittest
 
 import data_of_bands as bands
 import journal_maker
-from common import PROGRAM, Folder, needs_program
+from common import PROGRAM, Folder, asked, needs_program
 from data_of_bank_a import BANK, PLAN, SCRIPT
 from shadowtools.checkers import journal_move
 
@@ -377,13 +375,7 @@ class Watched(WithJournal):
         self.port = int(found.group(1))
 
     def asked(self, path, body):
-        connection = http.client.HTTPConnection("127.0.0.1", self.port, timeout=LIMIT)
-        try:
-            connection.request("POST", path, json.dumps(body))
-            response = connection.getresponse()
-            return response.status, json.loads(response.read())
-        finally:
-            connection.close()
+        return asked(self.port, "POST", path, body, LIMIT)
 
     def is_lost_by(self, change, cause):
         """The server refuses what would be written, says why once, and ends. Gives what it had written before."""

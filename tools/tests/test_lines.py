@@ -1,6 +1,4 @@
 """Lines on standard error of the built program while nobody reads them: no reply waits for a line, and what is dropped is counted."""
-import http.client
-import json
 import os
 import re
 import resource
@@ -10,7 +8,7 @@ import threading
 import time
 import unittest
 
-from common import PROGRAM, Folder, needs_program
+from common import PROGRAM, Folder, asked, needs_program
 from data_of_bank_a import BANK, PLAN
 
 LIMIT = 60  # seconds for the whole of a test
@@ -66,13 +64,7 @@ class NobodyReads(Folder):
         self.port = int(found[1])
 
     def ask(self, method, path, body=None):
-        connection = http.client.HTTPConnection("127.0.0.1", self.port, timeout=REPLY)
-        try:
-            connection.request(method, path, json.dumps(body) if body else None)
-            response = connection.getresponse()
-            return response.status, json.loads(response.read())
-        finally:
-            connection.close()
+        return asked(self.port, method, path, body, REPLY)
 
     def begin(self, booking):
         return self.ask("POST", "/sessions", {"booking": booking})[0]

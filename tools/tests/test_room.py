@@ -1,6 +1,4 @@
 """The built server on a disk that is full, with a reserve beside the journal and without one."""
-import http.client
-import json
 import os
 import re
 import subprocess
@@ -9,7 +7,7 @@ import time
 import unittest
 
 import data_of_bank_a as bank_a
-from common import PROGRAM, Folder, needs_program
+from common import PROGRAM, Folder, asked, needs_program
 
 LIMIT = 60  # seconds for the whole of a test
 PIECE = 65536
@@ -51,12 +49,7 @@ class FullDisk(Folder):
         reader.start()
 
     def begin(self, booking):
-        connection = http.client.HTTPConnection("127.0.0.1", self.port, timeout=LIMIT)
-        try:
-            connection.request("POST", "/sessions", json.dumps({"booking": booking}))
-            return connection.getresponse().status
-        finally:
-            connection.close()
+        return asked(self.port, "POST", "/sessions", {"booking": booking}, LIMIT)[0]
 
     def fill(self):
         """Other files take the whole disk."""

@@ -1,7 +1,5 @@
 """The built program beside itself: a server under load, and a stream of its journal to a follower."""
 import hashlib
-import http.client
-import json
 import os
 import re
 import shutil
@@ -13,7 +11,7 @@ import time
 import unittest
 
 import journal_maker as made
-from common import PROGRAM, ROOT, Folder, needs_program
+from common import PROGRAM, ROOT, Folder, asked, needs_program
 from exam_client import children_of
 from fake_follower import HEADER, Follower, frames, is_beginning, records
 
@@ -68,13 +66,7 @@ class Beside(Folder):
             time.sleep(0.02)
 
     def ask(self, method, path, body=None):
-        connection = http.client.HTTPConnection("127.0.0.1", self.port, timeout=LIMIT)
-        try:
-            connection.request(method, path, None if body is None else json.dumps(body))
-            response = connection.getresponse()
-            return response.status, json.loads(response.read())
-        finally:
-            connection.close()
+        return asked(self.port, method, path, body, LIMIT)
 
     def entries(self):
         try:
