@@ -2,7 +2,7 @@
 import functools
 import os
 import sys
-from typing import Callable, Optional, Sequence
+from typing import Callable, Optional, Protocol, Sequence
 
 
 INTERRUPTED = 130
@@ -31,12 +31,19 @@ def wants_help(words: Sequence[str]) -> bool:
     return list(words) in (["--help"], ["-h"])
 
 
-def as_command(main: Callable[[Sequence[str]], int]) -> Callable[[Optional[Sequence[str]]], int]:
+class Command(Protocol):
+    """A function of the words of the command line, by default the process's."""
+
+    def __call__(self, words: Optional[Sequence[str]] = None) -> int:
+        ...
+
+
+def as_command(main: Callable[[Sequence[str]], int]) -> Command:
     """A function of the words of the command line, by default the process's; it gives the exit status.
 
     A refusal is printed on standard error, with status 1. A reader of the output that goes away (`| head`) ends it with 1 too. Ctrl-C ends
-    it with 130, after the programs that it started. `--help`
-    alone prints the docstring of the function's module, unless the module has options of argparse, which print their own."""
+    it with 130, after the programs that it started. `--help` alone prints the docstring of the function's module, unless the module has
+    options of argparse, which print their own."""
     @functools.wraps(main)
     def command(words: Optional[Sequence[str]] = None) -> int:
         given = sys.argv[1:] if words is None else words
