@@ -107,6 +107,14 @@ class Series(Folder):
         self.assertEqual((started.returncode, said), (17, b"no series 00\n"))
         self.assertEqual(lines, "shadow series: 5 s; shadowd series: 5 s\r\n")
 
+    def is_running(self, process):
+        """Whether a process is there, and not one that has ended and waits to be taken off the list."""
+        try:
+            with open(f"/proc/{process}/stat", encoding="ascii") as file:
+                return file.read().rpartition(")")[2].split()[0] != "Z"
+        except FileNotFoundError:
+            return False
+
     def test_an_interruption_ends_both(self):
         """The interruption reaches the tool alone; its program is ended too, and there is no traceback."""
         words = self.slow("0; echo $$ > child; exec sleep 60")
@@ -118,8 +126,10 @@ class Series(Folder):
             started.send_signal(signal.SIGINT)
             said, errors = started.communicate(timeout=20)
         self.assertEqual((started.returncode, said, errors), (130, "", "interrupted\n"))
-        with self.assertRaises(ProcessLookupError):
-            os.kill(int(self.read("child")), 0)
+        until = time.monotonic() + 20
+        while self.is_running(int(self.read("child"))):
+            self.assertLess(time.monotonic(), until, "the program goes on")
+            time.sleep(0.05)
 
 
 if __name__ == "__main__":
