@@ -2,15 +2,18 @@
 import csv
 import io
 import json
+import math
 import os
 import statistics
 import unittest
 from html.parser import HTMLParser
+from unittest import mock
 
 import data_of_bank_a as a
 from common import Folder, needs_page
 from shadowtools.agency import sheets
 from shadowtools.agency.scoring import Scale
+from test_window import WindowFolder
 
 
 class Read(HTMLParser):
@@ -130,6 +133,63 @@ class Sheets(Folder):
         self.write("sheets/old.html", "")
         status, said, errors = self.tool("score", "bank", "plan", "map", "--lines", "lines", "--script", "script", "--open", "--unbound", "--sheets", "sheets")
         self.assertEqual((status, said, "the folder is not empty" in errors), (1, "", True))
+
+
+def answers_of(data):
+    """By session the booking and the items with their responses of a journal in the bytes of docs/FORMATS.md, read by this test alone."""
+    found, gate = {}, 8
+    while data[gate] == 1:
+        size = int.from_bytes(data[gate + 1:gate + 5], "big")
+        payload, gate = data[gate + 5:gate + 5 + size], gate + 5 + size
+        kind, session = payload[0], int.from_bytes(payload[1:5], "big")
+        if kind == 6:
+            found[session] = [int.from_bytes(payload[5:13], "big"), [], []]
+        if kind == 3:
+            found[session][1].append(int.from_bytes(payload[7:9], "big"))
+        if kind == 4:
+            found[session][2].append(payload[7])
+    return found.values()
+
+
+@needs_page
+class Computed(WindowFolder):
+    """The sheets of a window of 40 sessions, with scores 50 + 10 times the ability in whole numbers."""
+
+    def posterior(self, items, responses):
+        """Mean and standard deviation over the seven points of the grid, by the two-parameter model in thousandths of logarithms."""
+        parameters = [one["parameters"] for one in json.loads(self.read("e.map.json"))["items"]]
+        weights = []
+        for point in range(-3, 4):
+            total = round(-1000 * point ** 2 / 2)
+            for item, response in zip(items, responses):
+                slope, place = parameters[item]
+                right = 1 / (1 + math.exp(-slope * (point - place)))
+                total += round(1000 * math.log(right if response else 1 - right))
+            weights.append(math.exp(total / 1000))
+        mean = sum(weight * point for weight, point in zip(weights, range(-3, 4))) / sum(weights)
+        return mean, math.sqrt(sum(weight * (point - mean) ** 2 for weight, point in zip(weights, range(-3, 4))) / sum(weights))
+
+    def test_score_interval_and_level(self):
+        with mock.patch.object(sheets, "write_pdf"):   # which has the same facts, and takes long
+            self.score("--sheets", "sheets")
+        with open(self.path("j"), "rb") as file:
+            sittings, levels = list(answers_of(file.read())), set()
+        self.assertEqual(len(sittings), 40)
+        for booking, items, responses in sittings:
+            facts = Read(self.read(f"sheets/booking-{booking}.html")).pairs()
+            self.assertEqual(facts["Booking"], str(booking))
+            if not responses:
+                self.assertNotIn("Score", facts)
+                continue
+            mean, spread = self.posterior(items, responses)
+            score = int(facts["Score"])
+            self.assertLess(abs(50 + 10 * mean - score), 0.501)
+            low, high = map(int, facts["Interval"].split(" to "))
+            self.assertLess(abs(max(20, score - 19.6 * spread) - low), 0.501)
+            self.assertLess(abs(min(80, score + 19.6 * spread) - high), 0.501)
+            levels.add((sum(score >= cut for cut in (45, 55)), facts["Level"]))
+        self.assertEqual(sorted(below for below, _ in levels), [0, 1, 2])
+        self.assertEqual(len({name for _, name in levels}), 3)
 
 
 if __name__ == "__main__":
