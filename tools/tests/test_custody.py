@@ -347,6 +347,15 @@ class Bound(Tables):
         self.written()    # another layout of the same JSON
         self.assertEqual(self.score()[:2], (0, said))
 
+    def test_names_of_a_form(self):
+        """With the map the form of the program has the names of its items."""
+        path = self.write("program", "#!/bin/sh\nprintf 'form 1 6\\nobjective 7 proved nodes 1\\ntree 00\\n'\n")
+        os.chmod(path, 0o755)
+        words = ("explain", "o.bank.csv", "o.plan.txt", "--program", path)
+        first = "This form is proved best: form 1 6, objective 7 proved nodes 1.\n"
+        self.assertEqual(self.tool(*words), (0, first, ""))
+        self.assertEqual(self.tool(*words, "--map", "o.map.json"), (0, first + "Its items: B, G\n", ""))
+
     def test_a_map_that_the_plan_does_not_name(self):
         """One logit more for each ability; the same with all difficulties, which gives the same bank; and IDs that were exchanged."""
         def moved(items):

@@ -15,8 +15,8 @@ With --series it does the first for K forms without common items (status 17 of `
 rays and counts of the series tree name. Each step is a proved `no series`, but where the bank has too few items for K forms. The
 weights and the information play no part, so it asks with a bank whose items inform alike.
 
-Rules are named by the remark above them in the plan, as irt_bank.py writes it. With --map the gap is in units of information; the map
-has to be that of bank and plan. With --unbound the plan need not name it by its SHA-256. Exit status: 0 where there is a form or a
+Rules are named by the remark above them in the plan, as irt_bank.py writes it. With --map the form has its items' names, and the gap is in
+units of information; the map has to be that of bank and plan. With --unbound the plan need not name it by its SHA-256. Exit status: 0 where there is a form or a
 series, 11 where there is no form, 12 where none was found, 17 where there is no series, 18 where none was found, 1 where the files
 are refused.
 """
@@ -212,12 +212,10 @@ def options(words: Sequence[str]) -> argparse.Namespace:
 
 def main(words: Sequence[str]) -> int:
     given = options(words)
-    unit = None
-    if given.map:
-        unit = read_documents(given.bank, given.plan, given.map, may_be_unbound=given.unbound).map["information_unit"]
+    scale = read_documents(given.bank, given.plan, given.map, may_be_unbound=given.unbound).map if given.map else None
     text = text_of(given.plan)
     program = Program(given.program, given.bank)
-    return on_series(program, text, given.series) if given.series else on_form(program, text, given, unit)
+    return on_series(program, text, given.series) if given.series else on_form(program, text, given, scale)
 
 
 def on_series(program: Program, text: str, count: int) -> int:
@@ -240,8 +238,9 @@ def on_series(program: Program, text: str, count: int) -> int:
     return status
 
 
-def on_form(program: Program, text: str, given: argparse.Namespace, unit: Optional[float]) -> int:
-    """Explains why there is no form, or how far from the best one it is. The status of `shadowd assemble`."""
+def on_form(program: Program, text: str, given: argparse.Namespace, scale: Optional[dict]) -> int:
+    """Explains why there is no form, or how far from the best one it is, with the names and the unit of the map. The status of `shadowd
+    assemble`."""
     status, said = program.assemble(text)
     if status == NO_FORM:
         kept, of = clash(program, text, said.split()[-1])
@@ -252,8 +251,10 @@ def on_form(program: Program, text: str, given: argparse.Namespace, unit: Option
     elif status == DONE:
         form, (items, objective) = form_of(said), said.splitlines()[:2]
         print(f"This form is {'' if form.is_proved else 'not '}proved best: {items}, {objective}.")
+        if scale:
+            print("Its items: " + ", ".join(scale["items"][item]["id"] for item in form.items))
         if not form.is_proved:
-            print_gap(*gap(given.bank, given.plan, form), unit)
+            print_gap(*gap(given.bank, given.plan, form), scale["information_unit"] if scale else None)
     else:
         raise Refused(f"shadowd assemble, status {status}: {said[:200]}")
     return status
