@@ -7,6 +7,7 @@ import json
 import os
 import tempfile
 import unittest
+from unittest import mock
 
 from shadowtools.needs import is_there
 from shadowtools.places import BUILT as PROGRAM
@@ -33,6 +34,9 @@ class Folder(unittest.TestCase):
     def setUp(self):
         holder = tempfile.TemporaryDirectory()
         self.addCleanup(holder.cleanup)
+        slow = mock.patch("shadowtools.agency.drivers.PAUSE", 1e9)    # no notes on progress, however busy the machine is
+        slow.start()
+        self.addCleanup(slow.stop)
         self.folder = holder.name
 
     def path(self, name):

@@ -51,8 +51,7 @@ class Parts(Examination):
         self.assertEqual(status, 0, errors)
 
     def taken(self, *words, part=("--part", "2")):
-        with mock.patch("shadowtools.agency.drivers.PAUSE", 1e9):
-            return self.simulate(*part, *words, program=self.path("noting"))
+        return self.simulate(*part, *words, program=self.path("noting"))
 
     def journal(self, *words, **more):
         status, said, errors = self.taken(*words, **more)
