@@ -9,6 +9,7 @@ import stat
 import subprocess
 import threading
 import time
+from pathlib import Path
 
 from common import PROGRAM, ROOT, Folder, asked, needs_program
 
@@ -97,6 +98,27 @@ class Dawdlers(Doors):
         port = self.beside(lambda one: one.sendall(HEAD[:9]), lambda one: one.sendall(HEAD + b'{"boo'), lambda one: one.sendall(b"\r\n"))
         self.assertEqual(self.asked(port, "GET", "/health")[1]["busy"], 1)
 
+    def test_they_send_a_byte_now_and_then(self):
+        """Within a head and within a body."""
+        _, port = self.serve(SHADOWD_WORKERS="4")
+        clients, over = [self.connected(port, front) for front in (b"", HEAD) for _ in range(32)], threading.Event()
+
+        def send():
+            for byte in HEAD:
+                for one in clients:
+                    one.sendall(bytes([byte]) if one in clients[:32] else b" ")
+                if over.wait(0.5):
+                    return
+
+        sender = threading.Thread(target=send)
+        sender.start()
+        try:
+            for number in range(20):
+                self.assertEqual(self.asked(port, "POST", "/sessions", {"booking": number}, HELD)[0], 201)
+        finally:
+            over.set()
+            sender.join()
+
     def test_they_do_not_close(self):
         port = self.beside(lambda one: one.sendall(LOOK + b"Connection: close\r\n\r\n"), lambda one: one.sendall(b"ping\n"))
         self.assertEqual(self.asked(port, "GET", "/health")[1]["busy"], 1)
@@ -181,7 +203,7 @@ class Parts(Doors):
 @needs_program
 class Queue(Doors):
     def test_a_burst_is_connected(self):
-        """While the server does nothing at all, the system takes more connections than 128 for it."""
+        """While the server does nothing at all, the system takes more connections than 128 for it. Each has its response later."""
         server, port = self.serve()
         most = int(self.read("/proc/sys/net/core/somaxconn"))
         if most < 600:
@@ -200,8 +222,13 @@ class Queue(Doors):
             for place, _ in poll.poll(1000):
                 made += 1
                 poll.unregister(place)
+        for one in clients.values():
+            one.setblocking(True)
+            one.settimeout(LIMIT)
+            one.sendall(HEALTH)
         server.send_signal(signal.SIGCONT)
         self.assertEqual(made, 500)
+        self.assertEqual({one.recv(4096)[9:12] for one in clients.values()}, {b"200"})
 
 
 @needs_program
@@ -350,16 +377,21 @@ class Words(Doors):
 
 @needs_program
 class Follower(Doors):
-    def test_silent_connections(self):
-        """A leader gets in beside connections that send nothing, of which one ends now and then."""
-        _, made = self.serve(SHADOWD_CONNECTIONS="0"), self.path("journal")
-        self.assertTrue(os.path.exists(made))
+    def follower(self):
+        """A follower with no records, its port, and 64 strangers, of which some have ended."""
         follower = self.run_program("follow", *FILES, SHADOWD_JOURNAL=self.path("copy"))
         port = self.port_of(follower)
         for number in range(64):
             stranger = self.connected(port)
             if number % 8 == 0:
                 stranger.close()
+        return follower, port
+
+    def test_silent_connections(self):
+        """A leader gets in beside connections that send nothing, of which one ends now and then."""
+        _, made = self.serve(SHADOWD_CONNECTIONS="0"), self.path("journal")
+        self.assertTrue(os.path.exists(made))
+        follower, port = self.follower()
         leader = self.run_program("ship", *FILES, SHADOWD_FOLLOWER=f"127.0.0.1:{port}")
         self.assertEqual((leader.communicate(timeout=30)[0], leader.returncode), ("shipped 0\n", 0))
         self.connected(port).close()
@@ -368,3 +400,15 @@ class Follower(Doors):
         # A stranger that sends what no leader sends is judged as before.
         self.connected(port, b"x" * 64)
         self.assertEqual(follower.wait(LIMIT), 20)
+
+    def test_a_stream_beside_silent_connections(self):
+        _, port = self.serve(SHADOWD_WORKERS="1")
+        self.assertEqual(self.asked(port, "POST", "/sessions", {"booking": 70})[0], 201)
+        follower, place = self.follower()
+        self.run_program("stream", *FILES, SHADOWD_LISTEN=f"127.0.0.1:{port}", SHADOWD_FOLLOWER=f"127.0.0.1:{place}")
+        leader, copy, until = Path(self.path("journal")), Path(self.path("copy")), time.monotonic() + LIMIT
+        while copy.read_bytes() != leader.read_bytes() and time.monotonic() < until:
+            time.sleep(0.05)
+        self.assertEqual(copy.read_bytes(), leader.read_bytes())
+        self.assertGreater(len(copy.read_bytes()), 9)
+        self.assertIsNone(follower.poll())
