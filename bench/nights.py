@@ -1,12 +1,15 @@
 #!/usr/bin/env python3
 """Measures what clients and operators do to a server at night. See nights.md.
 
-usage: nights.py PROGRAM [slow burst end silent] [--seconds 20] [--kinds KIND ..] [--folder FOLDER]
+usage: nights.py PROGRAM [slow burst end silent lines] [--seconds 20] [--kinds KIND ..] [--folder FOLDER] [--hold]
 
 slow    64 clients of each kind that dawdle, beside 4 that are quick: how long the quick ones wait
 burst   800 connections at one moment, each with one request
 end     160 requests are in flight when the end is asked for by SHADOWD_END, and at SIGTERM
 silent  64 silent connections are at `follow` before `stream` comes
+lines   nobody reads standard error, which is full, while the disk is full and works in turn: how long 4 clients wait for each reply
+
+--hold  then says of each row whether it is within what was aimed at; the last line is 'N passed, M failed', and one that fails gives status 1
 """
 import argparse
 import collections
@@ -14,10 +17,13 @@ import contextlib
 import http.client
 import json
 import os
+import re
+import resource
 import select
 import signal
 import socket
 import subprocess
+import sys
 import tempfile
 import threading
 import time
@@ -54,11 +60,12 @@ class Night:
         with open(self.files[1], "w", encoding="ascii") as file:
             file.write(PLAN)
 
-    def start(self, command, journal, **settings):
-        """A process that goes on; standard error goes to a file."""
+    def start(self, command, journal, errors=None, **settings):
+        """A process that goes on; standard error goes to a file, unless another one is given."""
         environment = {"PATH": os.environ["PATH"], "SHADOWD_JOURNAL": os.path.join(self.folder, journal), **settings}
-        with open(os.path.join(self.folder, "errors"), "a", encoding="utf-8") as errors:
-            process = subprocess.Popen([self.program, command, *self.files], env=environment, stdout=subprocess.DEVNULL, stderr=errors, restore_signals=False)
+        with open(os.path.join(self.folder, "errors"), "a", encoding="utf-8") as file:
+            process = subprocess.Popen([self.program, command, *self.files], env=environment, stdout=subprocess.DEVNULL, stderr=errors or file,
+                                       restore_signals=False)
         self.running.append(process)
         return process
 
@@ -280,7 +287,89 @@ def silent(night, _asked):
     return took, is_whole, ended
 
 
-ROWS = {"slow": slow, "burst": burst, "end": end, "silent": silent}
+def fill(pipe):
+    """Fills a pipe that nobody reads."""
+    os.set_blocking(pipe, False)
+    for piece in (4096, 1):
+        with contextlib.suppress(BlockingIOError):
+            while True:
+                os.write(pipe, b"x" * piece)
+    os.set_blocking(pipe, True)
+
+
+def asking(port, number, end, waits, got):
+    """Begins a session, looks at one and at the health, again and again."""
+    booking = 100_000 * (number + 1)
+    while time.monotonic() < end:
+        booking += 1
+        for method, path, body in (("POST", "/sessions", {"booking": booking}), ("GET", "/sessions/0", None), ("GET", "/health", None)):
+            start = time.monotonic()
+            got[ask(port, method, path, body, limit=20)[0]] += 1
+            waits.append(time.monotonic() - start)
+
+
+def lines(night, asked):
+    """The waits of clients while lines find no reader, and what is read of them once there is one."""
+    reader, writer = os.pipe()
+    folder = os.path.join(*(letter * 200 for letter in "abcd"))  # so that a line has some 900 bytes
+    os.makedirs(os.path.join(night.folder, folder))
+    server, port = night.serve(journal=os.path.join(folder, "lines"), errors=writer)
+    ask(port, "POST", "/sessions", {"booking": 0})
+    fill(writer)
+    waits, got, end = [], collections.Counter(), time.monotonic() + asked.seconds
+    others = [threading.Thread(target=asking, args=(port, number, end, waits, got)) for number in range(QUICK)]
+    for thread in others:
+        thread.start()
+    while any(thread.is_alive() for thread in others):  # no file may grow, or each may
+        for most in (0, resource.RLIM_INFINITY):
+            resource.prlimit(server.pid, resource.RLIMIT_FSIZE, (most, resource.RLIM_INFINITY))
+            time.sleep(0.002)
+    told = b""
+    while select.select([reader], [], [], 2)[0]:
+        told += os.read(reader, 65536)
+    server.kill()
+    server.wait()
+    os.close(writer)
+    os.close(reader)
+    dropped = sum(map(int, re.findall(rb"shadowd: (\d+) lines were dropped here", told)))
+    print(f"lines: nobody reads them for {asked.seconds:g} s; {QUICK} clients: {dict(got)}; {line_of(waits)}; then {told.count(b'shadowd: ')} lines, "
+          f"{dropped} dropped", flush=True)
+    return got[0], max(waits), dropped
+
+
+# ---------------------------------------------------------------- what was aimed at
+
+def held_slow(found):
+    alone = found.get("nobody")
+    return {f"beside 64 of `{kind}` the 99th percentile is within 100 ms of that beside nobody": spread_of[1] <= alone[1] + 100
+            for kind, spread_of in found.items() if alone and kind != "nobody"}
+
+
+def held_burst(found):
+    (health, connected, last), (begins, begin_connected, _) = found["health"], found["begin"]
+    return {f"{BURST} connections are made within 0.3 s": max(connected, begin_connected) <= 0.3,
+            f"{BURST} of them have their response to GET /health within 1 s": health == {"200": BURST} and last <= 1,
+            f"each of {BURST} begins is done": begins == {"201": BURST}}
+
+
+def held_end(found):
+    got, status, took = found["asked"]
+    return {f"{FLIGHT} requests in flight are answered at an end that is asked for": got == {200: FLIGHT},
+            "the server ends with 0 within 5 s": status == 0 and took <= 5}
+
+
+def held_silent(found):
+    took, is_whole, ended = found
+    return {f"the stream is in within 2 s beside {SILENT} silent connections, and follow goes on": is_whole and took <= 2 and ended is None}
+
+
+def held_lines(found):
+    without_reply, longest, dropped = found
+    return {"each reply comes within 5 s while nobody reads the lines": without_reply == 0 and longest <= 5, "lines were dropped, and counted": dropped > 0}
+
+
+ROWS = {"slow": slow, "burst": burst, "end": end, "silent": silent, "lines": lines}
+HELD = {"slow": held_slow, "burst": held_burst, "end": held_end, "silent": held_silent, "lines": held_lines}
 
 
 def main():
@@ -290,15 +379,23 @@ def main():
     reader.add_argument("--seconds", type=float, default=20)
     reader.add_argument("--kinds", nargs="+", choices=KINDS)
     reader.add_argument("--folder")
+    reader.add_argument("--hold", action="store_true")
     asked = reader.parse_args()
     night = Night(asked.program, asked.folder)
     print(f"{asked.program}; {os.cpu_count()} processors, load {os.getloadavg()[0]:.1f}; folder {night.folder}", flush=True)
+    held = {}
     try:
         for name in asked.rows or ROWS:
-            ROWS[name](night, asked)
+            held.update(HELD[name](ROWS[name](night, asked)))
     finally:
         night.end()
     print(f"load {os.getloadavg()[0]:.1f}")
+    if not asked.hold:
+        return
+    for what, holds in held.items():
+        print(f"{'holds' if holds else 'DOES NOT HOLD'}: {what}")
+    print(f"{sum(held.values())} passed, {len(held) - sum(held.values())} failed")
+    sys.exit(not all(held.values()))
 
 
 if __name__ == "__main__":
