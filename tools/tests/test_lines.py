@@ -40,14 +40,16 @@ class NobodyReads(Folder):
 
     def setUp(self):
         super().setUp()
-        folder = self.folder
-        for letter in "abcd":  # so that a line on the journal has some 900 bytes
-            folder = os.path.join(folder, letter * 200)
-        os.makedirs(folder)
-        self.journal = os.path.join(folder, "journal")
+        self.journal = self.journal_in("abcd")  # so that a line on the journal has some 900 bytes
         self.files = [self.write("bank.csv", BANK), self.write("plan.txt", PLAN + "sessions 65536\n")]
         self.reader, self.writer = os.pipe()
         self.addCleanup(os.close, self.reader)
+
+    def journal_in(self, letters):
+        """A path with a folder of 200 bytes for each letter."""
+        folder = os.path.join(self.folder, *(letter * 200 for letter in letters))
+        os.makedirs(folder)
+        return os.path.join(folder, "journal")
 
     def start(self, **settings):
         environment = dict(os.environ, SHADOWD_JOURNAL=self.journal, SHADOWD_LISTEN="127.0.0.1:0", SHADOWD_WORKERS="2", **settings)
@@ -61,7 +63,7 @@ class NobodyReads(Folder):
         said = b""
         while not (found := re.search(rb"listening on 127\.0\.0\.1:(\d+)", said)):
             said += os.read(self.reader, 4096)
-        self.port = int(found[1])
+        self.port, self.said = int(found[1]), said
 
     def ask(self, method, path, body=None):
         return asked(self.port, method, path, body, REPLY)
@@ -104,6 +106,27 @@ class NobodyReads(Folder):
         while not re.search(pattern, said):
             said += os.read(self.reader, 65536)
         return said
+
+    def line_of_start(self):
+        """The line on where the server listens, and what it would be if it might have any length."""
+        self.start()
+        said = self.said if self.said.endswith(b"\n") else self.said + self.read_until(rb"\n\Z")
+        self.server.kill()
+        self.server.wait()
+        return said.splitlines(keepends=True)[-1], b"shadowd: listening on 127.0.0.1:%d, journal %s\n" % (self.port, self.journal.encode())
+
+    def test_a_line_of_the_greatest_length(self):
+        front = self.journal_in("abce")[:-len("journal")]
+        self.journal = front + "j" * (LONGEST - len("shadowd: listening on 127.0.0.1:00000, journal \n") - len(front))
+        line, whole = self.line_of_start()
+        self.assertEqual((line, len(line)), (whole, LONGEST))
+
+    def test_a_longer_line_is_cut(self):
+        """It ends in three dots and a line feed."""
+        self.journal = self.journal_in("fghij")
+        line, whole = self.line_of_start()
+        self.assertGreater(len(whole), LONGEST)
+        self.assertEqual(line, whole[:LONGEST - 4] + b"...\n")
 
     def test_a_server_ends(self):
         self.start(SHADOWD_CONNECTIONS="1")
