@@ -1,13 +1,15 @@
 #!/usr/bin/env python3
 """Measures what clients and operators do to a server at night. See nights.md.
 
-usage: nights.py PROGRAM [slow burst end silent lines] [--seconds 20] [--kinds KIND ..] [--folder FOLDER] [--hold]
+usage: nights.py PROGRAM [slow burst end steady silent lines room] [--seconds 20] [--kinds KIND ..] [--folder FOLDER] [--hold]
 
 slow    64 clients of each kind that dawdle, beside 4 that are quick: how long the quick ones wait
 burst   800 connections at one moment, each with one request
 end     160 requests are in flight when the end is asked for by SHADOWD_END, and at SIGTERM
+steady  200 clients send the next request as soon as they have a response, and the end is asked for
 silent  64 silent connections are at `follow` before `stream` comes
 lines   nobody reads standard error, which is full, while the disk is full and works in turn: how long 4 clients wait for each reply
+room    the disk is full, and begins go on in a reserve of 256 KiB until it is used up: on ext4 over a loop device, or a tmpfs; needs root
 
 --hold  then says of each row whether it is within what was aimed at; the last line is 'N passed, M failed', and one that fails gives status 1
 """
@@ -30,10 +32,15 @@ import time
 
 from many import BANK, PLAN
 
+sys.path.insert(0, os.path.join(os.path.dirname(os.path.abspath(__file__)), "..", "tools"))
+from shadowtools.gate.soak_site import DISKS, Disk, disk_kind  # noqa: E402
+
 BODY = b'{"booking":99}'
 HEAD = b"POST /sessions HTTP/1.1\r\nHost: x\r\nContent-Length: %d\r\n\r\n" % len(BODY)
 HEALTH = b"GET /health HTTP/1.1\r\nHost: x\r\nConnection: close\r\n\r\n"
-CLIENTS, WORKERS, QUICK, BURST, FLIGHT, SILENT = 64, 4, 4, 800, 160, 64
+CLIENTS, WORKERS, QUICK, BURST, FLIGHT, SILENT, STEADY = 64, 4, 4, 800, 160, 64, 200
+RESERVE = 4 * 65536
+GIVEN_UP = 30  # seconds for an end that is asked for
 
 
 def spread(values):
@@ -260,6 +267,43 @@ def end(night, _asked):
     return found
 
 
+def without_pause(port, over, got):
+    """One request after another on one connection, until it is ended."""
+    with contextlib.suppress(OSError), socket.create_connection(("127.0.0.1", port), 60) as client:
+        while not over.is_set():
+            client.sendall(b"GET /health HTTP/1.1\r\nHost: x\r\n\r\n")
+            if not client.recv(4096):
+                return
+            got.append(time.monotonic())
+
+
+def steady(night, _asked):
+    """How long a server that has a message at each moment goes on after it is asked to end."""
+    path = os.path.join(night.folder, "end")
+    server, port = night.serve(journal="steady", SHADOWD_END=path)
+    over, got = threading.Event(), []
+    threads = [threading.Thread(target=without_pause, args=(port, over, got), daemon=True) for _ in range(STEADY)]
+    for thread in threads:
+        thread.start()
+    time.sleep(2)
+    begun = time.monotonic()
+    asks = threading.Thread(target=asked_end, args=(path,), daemon=True)
+    asks.start()
+    ended, later = None, 0
+    while ended is None and time.monotonic() - begun < GIVEN_UP:
+        time.sleep(0.1)
+        ended = server.poll()
+        later += time.monotonic() - begun > 1 and ask(port, "GET", "/health", limit=5)[0] == 200
+    took = time.monotonic() - begun
+    over.set()
+    server.kill()
+    server.wait()
+    state = "goes on" if ended is None else f"ended with {ended}"
+    print(f"steady: {STEADY} clients without a pause: the server {state} {took:.1f} s after it was asked to end; {sum(at > begun for at in got)} responses "
+          f"since, {later} on connections made more than a second after that", flush=True)
+    return ended, took, later
+
+
 def silent(night, _asked):
     """How long `stream` needs to reach a follower at which others are silent, and what ends."""
     server, port = night.serve(journal="leader")
@@ -337,6 +381,45 @@ def lines(night, asked):
     return got[0], max(waits), dropped
 
 
+def timed_begin(port, booking):
+    start = time.monotonic()
+    status, _ = ask(port, "POST", "/sessions", {"booking": booking})
+    return status, time.monotonic() - start
+
+
+def begins_in_reserve(port, first):
+    """The waits of begins that are done, until one is refused."""
+    waits = []
+    while True:
+        status, wait = timed_begin(port, first + len(waits))
+        if status != 201:
+            return waits
+        waits.append(wait)
+
+
+def room(night, _asked):
+    """What begins cost on a full disk, and how much of the reserve they use."""
+    kind = disk_kind(None)
+    if kind == Disk.KIND:
+        print("skipped: room: no root")
+        return None
+    disk = DISKS[kind](os.path.join(night.folder, "disk"))
+    try:
+        server, port = night.serve(journal="disk/journal", SHADOWD_RESERVE=str(RESERVE))
+        journal = os.path.join(disk.folder, "journal")
+        time.sleep(3)  # until the reserve is written
+        before = [timed_begin(port, booking)[1] for booking in range(200)]
+        disk.fill([], journal)
+        size, waits = os.path.getsize(journal), begins_in_reserve(port, 1000)
+        used = os.path.getsize(journal) - size
+        server.kill()
+        server.wait()
+    finally:
+        disk.close()
+    print(f"room: {kind}; begins: {line_of(before)}; on the full disk {len(waits)}: {line_of(waits or [0])}; {used} bytes of {RESERVE} were used", flush=True)
+    return used
+
+
 # ---------------------------------------------------------------- what was aimed at
 
 def held_slow(found):
@@ -358,6 +441,12 @@ def held_end(found):
             "the server ends with 0 within 5 s": status == 0 and took <= 5}
 
 
+def held_steady(found):
+    ended, took, later = found
+    return {f"the server ends with 0 within 5 s beside {STEADY} clients without a pause": ended == 0 and took <= 5,
+            "no connection is taken a second after the end is asked for": later == 0}
+
+
 def held_silent(found):
     took, is_whole, ended = found
     return {f"the stream is in within 2 s beside {SILENT} silent connections, and follow goes on": is_whole and took <= 2 and ended is None}
@@ -368,8 +457,12 @@ def held_lines(found):
     return {"each reply comes within 5 s while nobody reads the lines": without_reply == 0 and longest <= 5, "lines were dropped, and counted": dropped > 0}
 
 
-ROWS = {"slow": slow, "burst": burst, "end": end, "silent": silent, "lines": lines}
-HELD = {"slow": held_slow, "burst": held_burst, "end": held_end, "silent": held_silent, "lines": held_lines}
+def held_room(used):
+    return {} if used is None else {"begins go on in nine tenths of the reserve": used >= 0.9 * RESERVE}
+
+
+ROWS = {"slow": slow, "burst": burst, "end": end, "steady": steady, "silent": silent, "lines": lines, "room": room}
+HELD = {"slow": held_slow, "burst": held_burst, "end": held_end, "steady": held_steady, "silent": held_silent, "lines": held_lines, "room": held_room}
 
 
 def main():
