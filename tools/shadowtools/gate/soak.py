@@ -12,6 +12,7 @@ printed first, each thing once and then again until M minutes are over:
   terminate      SIGTERM to the leader
   ask for end    `shadowd end`, which has to end with 0, and the leader too
   full disk      the leader's disk has no room, with a reserve in half of the cases
+  kill on a full disk  the leader is killed then, and started while the disk is still full
   full follower  the follower's disk has none
   blocked lines  nobody reads the leader's standard error, which is full, and its disk has no room
   lost journal   the journal is renamed: the leader has to end with 9, and no start makes another
@@ -164,6 +165,14 @@ class Soak:
             self.site.seen["writes without room"] += self.finds_no_room(self.site.machines[0])
             self.site.wait(self.draw.random())
 
+    def kill_on_full_disk(self) -> None:
+        with self.site.full(self.site.machines[0], [self.site.leader]):
+            self.site.seen["writes without room"] += self.finds_no_room(self.site.machines[0])
+            self.site.kill(self.site.leader)
+            self.site.compare("kill on a full disk")
+            self.start_again()
+            self.site.wait(self.draw.random())
+
     def finds_no_room(self, machine: Machine) -> bool:
         """Waits until a request is refused since the disk is full, or the reserve is cut, for so long as that may take."""
         begun, reserve = time.monotonic(), len(bytes_of(machine.reserve))
@@ -199,14 +208,14 @@ class Soak:
         one, two = site.machines
         before, hidden = set(one.files()), one.journal + ".hidden"
         os.rename(one.journal, hidden)
-        self.ends_with(site.leader, NO_JOURNAL, "lost journal")
+        self.ends_with(site.leader, "lost journal", "the journal was removed")
         site.kill(site.streaming)
-        for part in (None, b"SHADOW"[:self.draw.randrange(7)]):
+        for part in (None, b"SHADOWJ2"[:self.draw.randrange(9)]):
             if part is not None:
                 with open(one.journal, "wb") as file:
                     file.write(part)
-            for process in (site.serve_on(one), site.start("follow", one.journal, SHADOWD_LISTEN="127.0.0.1:0")):
-                self.is_refused(process, f"{process.name} with {part} for a journal")
+            self.is_refused(site.serve_on(one), f"serve with {part} for a journal")
+            self.is_refused(site.start("follow", one.journal, SHADOWD_LISTEN="127.0.0.1:0"), f"follow with {part} for a journal")
             if bytes_of(one.journal) != (part or b"") or os.path.exists(one.journal) != (part is not None):
                 raise Wrong("lost journal: a start has made a journal, or changed what was there")
         os.rename(hidden, one.journal)
@@ -215,18 +224,19 @@ class Soak:
         self.start_again()
         site.stream()
 
-    def ends_with(self, process: Process, status: int, when: str) -> None:
-        found = process.end()
+    def ends_with(self, process: Process, when: str, why: str) -> None:
+        """It has to end since it has no journal, with a line that has these words."""
+        found, lines = process.end(), process.last_lines()
         self.site.take_lines(process)
-        if found != status or process.printed() != DISK_FAILED:
-            raise Wrong(f"{when}: {process.name} ended with {found}, {process.printed()[:80]!r}: {process.last_lines()}")
+        if found != NO_JOURNAL or process.printed() != DISK_FAILED or why not in lines:
+            raise Wrong(f"{when}: {process.name} ended with {found}, {process.printed()[:80]!r}: {lines}")
 
     def is_refused(self, process: Process, when: str) -> None:
         """A start that has to end: a server may not listen meanwhile."""
         if process.name == "serve" and process.await_port():
             self.site.kill(process)
             raise Wrong(f"lost journal: {when} goes on: {process.last_lines()}")
-        self.ends_with(process, NO_JOURNAL, when)
+        self.ends_with(process, when, "SHADOWD_MAKE=no makes none")
 
     def halted_follower(self) -> None:
         follower = self.site.follower
@@ -306,8 +316,8 @@ class Soak:
 
 FAULTS: Dict[str, Callable[[Soak], None]] = {
     "kill leader": Soak.kill_leader, "kill follower": Soak.kill_follower, "kill stream": Soak.kill_stream, "terminate": Soak.terminate,
-    "ask for end": Soak.ask_for_end, "full disk": Soak.full_disk, "full follower": Soak.full_follower, "blocked lines": Soak.blocked_lines,
-    "lost journal": Soak.lost_journal, "halted follower": Soak.halted_follower, "take-over": Soak.take_over}
+    "ask for end": Soak.ask_for_end, "full disk": Soak.full_disk, "kill on a full disk": Soak.kill_on_full_disk, "full follower": Soak.full_follower,
+    "blocked lines": Soak.blocked_lines, "lost journal": Soak.lost_journal, "halted follower": Soak.halted_follower, "take-over": Soak.take_over}
 
 
 # ---------------------------------------------------------------- what is demanded at the end
