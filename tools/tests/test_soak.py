@@ -119,7 +119,7 @@ class Demands(unittest.TestCase):
         for status, body in ((0, None), (503, {"error": "disk"}), (500, {"error": "memory"})):
             one = exchange(Asked("health", 0), status, body, 5)
             self.assertEqual(faults_of([*RIGHT, one]), {CAUSELESS})
-            for window, is_excused in (((4.4, 4.6), True), ((5.05, 9), True), ((5.2, 9), False), ((3, 4.4), False)):
+            for window, is_excused in (((4.4, 4.6), status == 0), ((4.9, 5), True), ((5.05, 9), True), ((5.2, 9), False), ((3, 4.4), False)):
                 self.assertEqual(faults_of([*RIGHT, one], windows=[window]), set() if is_excused else {CAUSELESS}, window)
 
     def test_what_was_inherited(self):

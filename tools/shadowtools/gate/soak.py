@@ -47,7 +47,7 @@ from shadowtools.command import Refused, as_command
 from shadowtools.gate import soak_compare
 from shadowtools.gate.kill_follow import Wrong, front_of, records_of
 from shadowtools.gate.kill_stream import free_port
-from shadowtools.gate.soak_clients import LIMIT, Burden, Client, Exchange, Late, Place, clients_of
+from shadowtools.gate.soak_clients import LIMIT, Burden, Client, Exchange, Late, Place, Slow, clients_of
 from shadowtools.gate.soak_site import DISK_FAILED, DISKS, NO_JOURNAL, RESERVE, Machine, Process, Site, bytes_of, disk_kind
 from shadowtools.places import DATA
 
@@ -376,8 +376,7 @@ def percentile(waits: List[float], part: float) -> float:
 
 def quiet_waits(log: Sequence[Exchange], windows: Sequence[Tuple[float, float]]) -> List[float]:
     """How long the replies took that no fault was near, in order; slow clients send for longer, and are left out."""
-    return sorted(one.ended - one.sent for one in log if one.status and one.client != "slow"
-                  and not any(begun <= one.ended and one.opened <= ended for begun, ended in windows))
+    return sorted(one.ended - one.sent for one in log if one.status and one.client != Slow.KIND and not soak_compare.is_near(one, windows))
 
 
 def report(soak: Soak, made: collections.Counter, late: int) -> None:

@@ -151,11 +151,16 @@ def backward(exchanges: Iterable[Exchange]) -> List[str]:
     return faults
 
 
+def is_near(one: Exchange, windows: Sequence[Tuple[float, float]]) -> bool:
+    """Whether a fault was made while this was asked; that a connection is lost may come from a fault since it was made."""
+    since = one.sent if one.status else one.opened
+    return any(begun <= one.ended and since <= ended for begun, ended in windows)
+
+
 def unexcused(exchanges: Iterable[Exchange], windows: Sequence[Tuple[float, float]]) -> List[str]:
-    """No connection is lost and no status is 500 or more, unless a fault was made between the connection and the reply."""
+    """No connection is lost and no status is 500 or more, unless a fault is near."""
     return [f"nothing was at fault, and {one}" for one in exchanges
-            if (one.status == 0 and one.body != GIVEN_UP or one.status >= 500)
-            and not any(begun <= one.ended and one.opened <= ended for begun, ended in windows)]
+            if (one.status == 0 and one.body != GIVEN_UP or one.status >= 500) and not is_near(one, windows)]
 
 
 def is_late(journal: Journal, one: Exchange) -> bool:

@@ -21,6 +21,7 @@ SPARE = 200  # bytes that a journal may still grow where its process has a limit
 RESERVE = 65536
 NO_JOURNAL, DISK_FAILED = 9, "disk failed\n"
 LAST_LINES = 40
+PIECE = 4096  # bytes that are read, or written, of a pipe at a time
 
 
 def bytes_of(path: str) -> bytes:
@@ -139,17 +140,23 @@ class Process:
         self.reading.start()
 
     def read(self, reader: int) -> None:
-        with open(reader, "rb") as lines, open(self.log, "ab") as log:
-            for line in lines:
+        """Reads a piece at a time, so that at most one comes after nobody is to read."""
+        begun = b""
+        with open(reader, "rb", 0) as pipe, open(self.log, "ab", 0) as log:
+            while piece := pipe.read(PIECE):
+                log.write(piece)
+                *lines, begun = (begun + piece).split(b"\n")
+                for line in lines:
+                    self.take_line(line.decode("utf-8", "replace").lstrip("x"))
                 self.is_read.wait()
-                log.write(line)
-                log.flush()
-                self.told.append(line.decode("utf-8", "replace").lstrip("x"))
-                self.counts[kind_of(self.told[-1])] += 1
-                found = re.search(rb"(?:listening|following) on 127\.0\.0\.1:(\d+),", line)
-                if found:
-                    self.port = int(found[1])
-                    self.is_known.set()
+
+    def take_line(self, line: str) -> None:
+        self.told.append(line + "\n")
+        self.counts[kind_of(line)] += 1
+        found = re.search(r"(?:listening|following) on 127\.0\.0\.1:(\d+),", line)
+        if found:
+            self.port = int(found[1])
+            self.is_known.set()
 
     def await_port(self) -> bool:
         """Whether it listens; False where it ends before."""
@@ -163,12 +170,11 @@ class Process:
         """Nobody reads its standard error, which is full."""
         self.is_read.clear()
         os.set_blocking(self.errors, False)
-        with contextlib.suppress(BlockingIOError):
-            while True:
-                os.write(self.errors, b"x" * 4096)
-        with contextlib.suppress(BlockingIOError):
-            while True:
-                os.write(self.errors, b"x")
+        for _ in range(3):  # the thread may take one piece more
+            with contextlib.suppress(BlockingIOError):
+                while True:
+                    os.write(self.errors, b"x" * PIECE)
+            time.sleep(0.05)
 
     def unblock(self) -> None:
         self.is_read.set()
