@@ -455,6 +455,10 @@ def soak_in(folder: str, asked: argparse.Namespace) -> Verdict:
     return verdict
 
 
+def ended_by_signal(number: int, _frame: object) -> None:
+    sys.exit(128 + number)
+
+
 def main(words: Sequence[str]) -> int:
     parser = argparse.ArgumentParser(description=__doc__, formatter_class=argparse.RawDescriptionHelpFormatter)
     parser.add_argument("program")
@@ -464,7 +468,11 @@ def main(words: Sequence[str]) -> int:
     parser.add_argument("--folder")
     asked = parser.parse_args(words)
     folder = tempfile.mkdtemp(prefix="soak.", dir=asked.folder)
-    verdict = soak_in(folder, asked)
+    before = signal.signal(signal.SIGTERM, ended_by_signal)  # the processes end then, and the disks are unmounted
+    try:
+        verdict = soak_in(folder, asked)
+    finally:
+        signal.signal(signal.SIGTERM, before)
     if not verdict.failed:
         shutil.rmtree(folder, ignore_errors=True)
     print(f"{verdict.passed} passed, {verdict.failed} failed")
