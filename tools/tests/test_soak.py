@@ -165,6 +165,19 @@ class Site(Folder):
                              ("shadowd: listening on 127.0.0.1:4710, journal /a/b\n", "shadowd: listening on N, journal b")):
             self.assertEqual(soak_site.kind_of(line), wanted)
 
+    def test_a_pipe_that_nobody_reads(self):
+        process = soak_site.Process(["/bin/sh", "-c", "echo shadowd: listening on 127.0.0.1:4710, journal x >&2; sleep 60"], {}, self.path("log"))
+        self.addCleanup(process.kill)
+        self.assertTrue(process.await_port())
+        process.block()
+        with self.assertRaises(BlockingIOError):
+            os.write(process.errors, b"x" * soak_site.PIECE)
+        process.unblock()
+        os.set_blocking(process.errors, True)
+        os.write(process.errors, b"\nshadowd: asked to end\n")
+        process.kill()
+        self.assertEqual((process.port, list(process.told)[-1]), (4710, "shadowd: asked to end\n"))
+
     def compared(self, leader, follower, most=0, front=b""):
         site = mock.Mock(machines=[mock.Mock(**{"data.return_value": leader}), mock.Mock(**{"data.return_value": follower})], front=front)
         site.relay.most = most
