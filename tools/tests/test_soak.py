@@ -134,7 +134,7 @@ class Clients(unittest.TestCase):
     def client(self, kind, *replies):
         place = soak_clients.Place("")
         one = kind(place, 0, 7)
-        one.PAUSE, given = 0, iter(replies)
+        given = iter(replies)
         one.pause = lambda: None
         one.reply = lambda asked: exchange(asked, *next(given))
         return one

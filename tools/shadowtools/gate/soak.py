@@ -436,7 +436,7 @@ def texts_of(folder: str) -> List[str]:
 
 
 def soak_in(folder: str, asked: argparse.Namespace) -> Verdict:
-    draw, place, verdict, kind = random.Random(asked.seed), Place("a-token-of-the-soak"), Verdict(), disk_kind(asked.disk)
+    draw, place, verdict, kind = random.Random(asked.seed), Place("a-token-of-the-soak", asked.minutes), Verdict(), disk_kind(asked.disk)
     print(f"seed {asked.seed}, {asked.minutes:g} minutes, disks: {kind}, folder {folder}", flush=True)
     site = Site(os.path.abspath(asked.program), folder, texts_of(folder), kind, place)
     soak = Soak(site, place, draw)

@@ -11,7 +11,8 @@ from shadowtools.gate.exam_client import Connection, Lost
 from shadowtools.gate.kill_follow import Wrong
 
 LIMIT = 90  # seconds for each wait
-PAUSE = 0.25  # seconds at most between two requests of a client
+PAUSE = 0.25  # seconds at most between two requests of a client, in a run of no more than QUICK minutes
+QUICK = 30  # minutes in which the clients begin fewer sessions than a plan may have; in a longer run they wait longer
 AGAIN = 0.05  # seconds before a request is sent again
 RANGE = 1_000_000_000  # bookings of a client
 GONE = {"no-session", "other-booking", "wrong-step"}  # refusals after a take-over: the client begins again
@@ -65,7 +66,8 @@ class Exchange:
 class Place:
     """Where the leader is, which the clients ask before each connection: the epoch, which each take-over ends, and the address."""
 
-    def __init__(self, token: str) -> None:
+    def __init__(self, token: str, minutes: float = 0) -> None:
+        self.pause = PAUSE * max(1, minutes / QUICK)
         self.token, self.log, self.over, self.cut = token, [], threading.Event(), threading.Event()
         self.epoch, self.address, self.follower = 0, None, None
 
@@ -102,7 +104,7 @@ class Client(threading.Thread):
         self.session(self.next_booking())
 
     def pause(self) -> None:
-        self.place.rest(self.draw.random() * PAUSE)
+        self.place.rest(self.draw.random() * self.place.pause)
 
     def next_booking(self) -> int:
         self.booking += 1
