@@ -7,6 +7,7 @@ from typing import Any, Dict, Iterable, List, NamedTuple, Optional, Sequence, Se
 from shadowtools.checkers import audit
 from shadowtools.gate.soak_clients import GIVEN_UP, Exchange
 
+FORM = 64  # bytes of the form that an item is served from
 SHOWN = 5  # faults of each kind that are printed
 DONE = float("inf")  # the place of a session that has ended
 
@@ -53,7 +54,7 @@ def entry_of(record: audit.Record) -> Entry:
         return Entry(kind, session, booking=fields.number(8))
     if kind == audit.SERVED:
         step, item = fields.number(2), fields.number(2)
-        fields.items()
+        fields.number(FORM)
         return Entry(kind, session, step, item, fields.number(1) == 1)
     if kind == audit.ANSWERED:
         return Entry(kind, session, fields.number(2), fields.number(1))
