@@ -148,7 +148,6 @@ class Soak:
 
     def ask_for_end(self) -> None:
         leader = self.site.leader
-        self.burden.flood(False)
         done = subprocess.run([self.site.program, "end"], env={"SHADOWD_END": self.site.end_socket}, capture_output=True, text=True, timeout=LIMIT, check=False)
         status = leader.end()
         self.site.take_lines(leader)
@@ -157,7 +156,6 @@ class Soak:
             raise Wrong(f"ask for end: {done.returncode}, {done.stdout!r}; serve {status}, {leader.printed()[:80]!r}; {count} records")
         if os.path.exists(self.site.end_socket):
             raise Wrong("ask for end: the socket is still there")
-        self.burden.flood(True)
         self.start_again()
 
     def full_disk(self) -> None:

@@ -368,8 +368,8 @@ def silent(draw: random.Random, token: str) -> bytes:
     return b""
 
 
-FLOOD, AT_FOLLOWER = "reads nothing", "silent at the follower"
-BURDENS = {"stays after Connection: close": stays, "stops within a head": in_head, "stops within a body": in_body, FLOOD: unread, "silent": silent}
+AT_FOLLOWER = "silent at the follower"
+BURDENS = {"stays after Connection: close": stays, "stops within a head": in_head, "stops within a body": in_body, "reads nothing": unread, "silent": silent}
 
 
 class Burden(threading.Thread):
@@ -383,29 +383,20 @@ class Burden(threading.Thread):
         super().__init__(daemon=True)
         self.place, self.draw, self.fault, self.seen = place, random.Random(seed), None, {name: 0 for name in [*BURDENS, AT_FOLLOWER]}
         self.held: List[Tuple[float, str, socket.socket]] = []
-        self.may_flood, self.has_looked = True, threading.Event()
 
     def run(self) -> None:
         while not self.place.over.wait(0.1):
             self.turn()
-            self.has_looked.set()
         self.drop(lambda until, kind: True)
 
     def turn(self) -> None:
         now = time.monotonic()
-        self.drop(lambda until, kind: until <= now or kind == FLOOD and not self.may_flood)
+        self.drop(lambda until, kind: until <= now)
         for name, bytes_of in BURDENS.items():
-            if sum(kind == name for _, kind, _ in self.held) < self.EACH and (name != FLOOD or self.may_flood):
+            if sum(kind == name for _, kind, _ in self.held) < self.EACH:
                 self.hold(name, self.place.address, bytes_of(self.draw, self.place.token))
         if sum(kind == AT_FOLLOWER for _, kind, _ in self.held) < self.MOST_AT_FOLLOWER:
             self.hold(AT_FOLLOWER, self.place.follower, b"")
-
-    def flood(self, may: bool) -> None:
-        """Whether there may be clients that send message after message and read nothing. When this returns, it is so."""
-        self.may_flood = may
-        for _ in range(2):
-            self.has_looked.clear()
-            self.has_looked.wait(LIMIT)
 
     def hold(self, name: str, address: Optional[Tuple[str, int]], data: bytes) -> None:
         if address is None:
