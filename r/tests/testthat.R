@@ -1,0 +1,4 @@
+library(testthat)
+library(shadowr)
+
+test_check("shadowr")
