@@ -33,3 +33,17 @@ test_that("coefficients of grm and gpcm, also where items have other numbers of 
   expect_identical(unlist(other[1, -(1:2)], use.names = FALSE), c(1, -1, NA))
   expect_identical(unlist(other[2, -(1:2)], use.names = FALSE), c(2, 0, 1))
 })
+
+test_that("the matrix of mirt keeps its columns, and its items their names", {
+  found <- shadow_items(cbind(a1 = c(x = 1.2, y = 0.7), d = c(-0.6, 0.1), g = c(0.2, 0), u = 1))
+  expect_identical(names(found), c("ID", "a1", "d", "g", "u"))
+  expect_identical(found$ID, c("x", "y"))
+  expect_identical(found$d, c(-0.6, 0.1))
+})
+
+test_that("a model of ltm is read by its own method of coef", {
+  registerS3method("coef", "ltm", function(object, ...) object$made, envir = asNamespace("stats"))
+  table <- rbind(x = c(Dffclt = -1, Dscrmn = 1.5))
+  found <- shadow_items(structure(list(made = table), class = "ltm"))
+  expect_identical(unlist(found[1, -1]), c(MODEL = "2PL", PAR1 = "1.5", PAR2 = "-1"))
+})
