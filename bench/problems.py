@@ -1,4 +1,8 @@
-"""The banks, plans and answers that assembly.py times. All numbers come of fixed recurrences."""
+"""The banks, plans and answers that assembly.py and series.py time. All numbers come of fixed recurrences; those of logistic models come
+of the generator `random` of Python.
+"""
+import math
+import random
 from collections import namedtuple
 
 # name, the texts of bank and plan, a word of responses for each session, and the exposure rate (num, den) or None: an item
@@ -196,6 +200,67 @@ class Passages(Larger):
     def problem(self, sessions):
         made = super().problem(sessions)
         return made._replace(name="%d items, %d rows, %d passages" % (self.items, self.count, self.stimuli))
+
+
+# ---------------------------------------------------------------- banks of logistic models, for series
+
+def information(slope: float, place: float, guess: float, ability: float) -> float:
+    """Of an item of the three-parameter logistic model with the scale 1.7."""
+    right = guess + (1 - guess) / (1 + math.exp(-1.7 * slope * (ability - place)))
+    return (1.7 * slope)**2 * (1 - right) / right * ((right - guess) / (1 - guess))**2
+
+
+def logistic_bank(words: list[int], info: list[list[int]]) -> str:
+    """Items of no stimulus, with a quantity and their information at five points; nobody answers them."""
+    return bank_text([(0, [amount], row, [-1] * 5, [-1] * 5) for amount, row in zip(words, info)], 1, 5)
+
+
+def members_of(kind: list[int], value: int) -> set[int]:
+    return {item for item, other in enumerate(kind) if other == value}
+
+
+def three_parameters(items: int, seed: int, length: int, subjects: int, keys: int, enemies: int) -> tuple[str, str]:
+    """A bank in thousandths and a plan that four forms, drawn before the rows, meet: counts from the least to the greatest of a form,
+    the sum of the words with 1 % to spare, and pairs that no form has."""
+    draws = random.Random(seed * 1000003 + items)
+    words = [draws.randint(30, 120) for _ in range(items)]
+    kinds = [draws.randrange(subjects) for _ in range(items)], [draws.randrange(keys) for _ in range(items)]
+    three = [(math.exp(draws.gauss(0, 0.3)), draws.gauss(0, 1), draws.uniform(0.1, 0.25)) for _ in range(items)]
+    order = list(range(items))
+    draws.shuffle(order)
+    forms = [{order.pop() for _ in range(length)} for _ in range(4)]
+    plan = [f"length {length}", "prior 0 0 0 0 0"]
+    for kind, values in zip(kinds, (subjects, keys)):
+        for members in filter(None, (members_of(kind, value) for value in range(values))):
+            least, *_, most = sorted(len(form & members) for form in forms)
+            plan.append(f"count {least} {max(most, least + 1)} {set_words(members)}")
+    sums = [sum(words[item] for item in form) for form in forms]
+    plan.append(f"quantity 0 {min(sums) * 99 // 100} {max(sums) * 101 // 100} 0-{items - 1}")
+    while enemies:
+        pair = sorted(draws.sample(range(items), 2))
+        if not any(set(pair) <= form for form in forms):
+            plan.append("enemies {} {}".format(*pair))
+            enemies -= 1
+    return logistic_bank(words, [[round(1000 * information(*item, at)) for at in range(-2, 3)] for item in three]), "\n".join(plan) + "\n"
+
+
+def two_parameters(items: int, seed: int) -> tuple[str, str]:
+    """A small bank in hundredths and a plan that two forms of a fifth of the items meet: counts with one to spare, and the words."""
+    draws, length = random.Random(f"m {items} {seed}"), items // 5
+    words = [draws.randint(20, 120) for _ in range(items)]
+    two = [(math.exp(draws.gauss(0, 0.3)), draws.gauss(0, 1), 0.0) for _ in range(items)]
+    order = list(range(items))
+    draws.shuffle(order)
+    forms = [set(order[:length]), set(order[length:2 * length])]
+    plan = [f"length {length}", "prior 0 0 0 0 0"]
+    for values in (3, 2):
+        kind = [draws.randrange(values) for _ in range(items)]
+        for members in filter(None, (members_of(kind, value) for value in range(values))):
+            least, most = sorted(len(form & members) for form in forms)
+            plan.append(f"count {least} {most + 1} {set_words(members)}")
+    sums = sorted(sum(words[item] for item in form) for form in forms)
+    plan.append(f"quantity 0 {sums[0]} {sums[1]} 0-{items - 1}")
+    return logistic_bank(words, [[round(100 * information(*item, 0.8 * at)) for at in range(-2, 3)] for item in two]), "\n".join(plan) + "\n"
 
 
 def all_problems(short, shift=0):

@@ -347,6 +347,16 @@ def cases(short):
     found += made(bank_l, (2,), grid=7) + made(larger(128, 20, 30, 4), (1, 2), peers=BEST_TWO)
     found += made(passages(200, 20, 16), (1, 2), peers=BEST_TWO) + made(passages(400, 30, 40), (2,), peers=BEST_TWO)
     found += [Case("passages", *example("passages"), count, (20, 30, 40), BEST_TWO) for count in (1, 2)]
+    return found + lost()
+
+
+def lost() -> list[Case]:
+    """Problems of which more is known than the program of version 0.12.0 finds or proves."""
+    drill = problems.drill(201, 1)
+    found = [Case("drill 201", drill.bank, drill.plan, 2, weighed(11, 3), BEST_TWO)]
+    found.append(Case("32 items, 3PL", *problems.three_parameters(32, 201, 7, 3, 2, 4), 4, (1, 2, 3), BEST_TWO))
+    for items, seed in ((36, 11), (40, 2)):
+        found.append(Case(f"{items} items, 2PL, 5 points", *problems.two_parameters(items, seed), 2, range(5), BEST_TWO))
     return found
 
 
