@@ -1,0 +1,6 @@
+pub mod Requests
+pub mod Journals
+pub mod Replays
+pub mod Conversations
+pub mod Servers
+pub mod Laws
