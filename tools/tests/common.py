@@ -5,6 +5,7 @@ import importlib
 import io
 import json
 import os
+import signal
 import tempfile
 import unittest
 from unittest import mock
@@ -26,6 +27,11 @@ def asked(port, method, path, body=None, limit=60, fields=None):
         connection.request(method, path, None if body is None else json.dumps(body), fields or {})
         response = connection.getresponse()
         return response.status, json.loads(response.read())
+
+
+def heed_interruptions():
+    """For a child that is to be interrupted: a shell that starts these tests in its background has it ignore SIGINT."""
+    signal.signal(signal.SIGINT, signal.SIG_DFL)
 
 
 class Folder(unittest.TestCase):

@@ -10,7 +10,7 @@ import unittest
 from contextlib import redirect_stderr, redirect_stdout
 from unittest import mock
 
-from common import TOOLS, Folder
+from common import TOOLS, Folder, heed_interruptions
 from shadowtools import alive
 from shadowtools.agency.drivers import Progress
 from shadowtools.alive import Pulse, Wanted, without_its_words
@@ -118,7 +118,8 @@ class Series(Folder):
     def test_an_interruption_ends_both(self):
         """The interruption reaches the tool alone; its program is ended too, and there is no traceback."""
         words = self.slow("0; echo $$ > child; exec sleep 60")
-        with subprocess.Popen(words, stdout=subprocess.PIPE, stderr=subprocess.PIPE, text=True, cwd=self.folder, start_new_session=True) as started:
+        with subprocess.Popen(words, stdout=subprocess.PIPE, stderr=subprocess.PIPE, text=True, cwd=self.folder, start_new_session=True,
+                              preexec_fn=heed_interruptions) as started:
             until = time.monotonic() + 20
             while not (os.path.exists(self.path("child")) and self.read("child")) and time.monotonic() < until:
                 time.sleep(0.02)

@@ -11,7 +11,7 @@ import types
 import unittest
 from unittest import mock
 
-from common import PROGRAM, TOOLS, needs_numpy, needs_program
+from common import PROGRAM, TOOLS, heed_interruptions, needs_numpy, needs_program
 from shadowtools.command import Refused
 from shadowtools.needs import is_there
 from test_simulate import Examination
@@ -141,7 +141,8 @@ class Interrupted(Parts):
         self.write("fails", "sleep\n")
         words = [sys.executable, os.path.join(TOOLS, "simulate.py"), "e", "--out", "run", "--program", self.path("noting"), "--tails", "none",
                  "--examinees", "4", "--part", "2", "--workers", "1"]
-        with subprocess.Popen(words, cwd=self.folder, stdout=subprocess.PIPE, stderr=subprocess.PIPE, text=True, start_new_session=True) as started:
+        with subprocess.Popen(words, cwd=self.folder, stdout=subprocess.PIPE, stderr=subprocess.PIPE, text=True, start_new_session=True,
+                              preexec_fn=heed_interruptions) as started:
             until = time.monotonic() + 60
             while not (len(self.left()) == 2 and "begin 2" in self.read("runs")) and time.monotonic() < until:
                 time.sleep(0.05)
