@@ -11,6 +11,9 @@ error where the same answers are scored again by the mean (EAP) on 1,201 points.
 import os
 import sys
 
+if sys.argv[1:] in (["-h"], ["--help"]):
+    print(__doc__.strip())
+    sys.exit()
 sys.path.insert(0, os.path.join(os.path.dirname(os.path.dirname(os.path.abspath(__file__))), "tools"))
 try:
     import numpy as np

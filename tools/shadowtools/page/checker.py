@@ -2,7 +2,6 @@
 no other script run. The script is written from docs/FORMATS.md; it shares nothing with these tools."""
 import base64
 import hashlib
-import json
 import os
 import re
 from dataclasses import dataclass
@@ -14,6 +13,7 @@ from shadowtools.command import Refused
 from shadowtools.formats.examination import opened
 from shadowtools.formats.exposure import Exposure
 from shadowtools.formats.tables import text_of
+from shadowtools.formats.written import json_text
 
 SCRIPT = os.path.join(os.path.dirname(os.path.abspath(__file__)), "appeal.js")
 MOST_BYTES = 20_000_000
@@ -71,7 +71,7 @@ class Evidence:
         script = text_of(SCRIPT)
         if "</script" in script or "<!--" in script:
             raise Refused(f"{SCRIPT}: a text that ends the element of the script")
-        return Checker(json.dumps(self.values(), separators=(",", ":")).replace("<", "\\u003c"), script)
+        return Checker(json_text(self.values(), is_compact=True, in_ascii=True).replace("<", "\\u003c"), script)
 
     def values(self) -> Dict[str, Any]:
         bands = [{"shown": band.shown, "eligible": band.eligible} for band in self.counts.bands]
