@@ -60,14 +60,17 @@ class Length(unittest.TestCase):
 class Page(unittest.TestCase):
     """The tool on a page of its own, with no libraries."""
 
-    def run_on(self, text):
+    def run_on(self, head, text=None, words=()):
         with tempfile.TemporaryDirectory() as folder:
-            page = os.path.join(folder, "PROMISES.md")
-            with open(page, "w", encoding="utf-8") as file:
-                file.write(text)
+            paths = {"HEAD": os.path.join(folder, "promises_page.md"), "PAGE": os.path.join(folder, "PROMISES.md")}
+            for path, content in zip(paths.values(), (head, head if text is None else text)):
+                with open(path, "w", encoding="utf-8") as file:
+                    file.write(content)
             out = io.StringIO()
-            with mock.patch.multiple(promises, PAGE=page, libraries=list, Library=mock.Mock), contextlib.redirect_stdout(out):
-                status = promises.main([])
+            with mock.patch.multiple(promises, **paths, libraries=list, Library=mock.Mock), contextlib.redirect_stdout(out):
+                status = promises.main(list(words))
+            with open(paths["PAGE"], encoding="utf-8") as file:
+                self.left = file.read()
         return status, out.getvalue().splitlines()
 
     def test_the_command_fails_for_a_long_sentence(self):
@@ -75,6 +78,81 @@ class Page(unittest.TestCase):
         status, lines = self.run_on(f"# Title\n\n{words(41)}.\n")
         self.assertEqual((status, lines[-1]), (1, "0 passed, 1 failed"))
         self.assertIn("line 3: a sentence of 41 words", lines[0])
+
+    def test_a_page_that_was_changed_by_hand_fails_until_it_is_written(self):
+        status, lines = self.run_on("# Title\n", "# Another\n")
+        self.assertEqual((status, lines[-1], self.left), (1, "0 passed, 1 failed", "# Another\n"))
+        self.assertEqual((self.run_on("# Title\n", "# Another\n", ["--write"])[0], self.left), (0, "# Title\n"))
+
+
+LIB = """pub mod laws;
+mod first;
+
+pub use first::{begin, Held};
+"""
+LAWS = """/// A law.
+pub fn one_is_one()
+    // Promise: One is one
+    ensures { One }
+{}
+"""
+FIRST = """// Promise: Nothing is promised of
+// what is private
+// - of `begin`, `Held::end`
+// - by its signature
+pub fn begin(n: u32) -> u32
+    requires { n < 9 }
+    // A comment of another kind.
+    // Promise: The result is the number, and
+    // not another one
+    // - by `same` (`IsSame`),
+    //   `bound`
+    // Promise: It is bounded
+    ensures bound { result < 9 }
+    ensures same { IsSame result n }
+{
+    n
+}
+
+impl Held {
+    /// Ends it.
+    // Promise: It ends
+    pub fn end(&self) {}
+}
+
+fn hidden()
+    // Promise: Nobody calls it
+    ensures { One }
+{}
+"""
+
+
+class Comments(unittest.TestCase):
+    """The rows that the comments of a crate give."""
+
+    def rows(self, first):
+        with tempfile.TemporaryDirectory() as folder:
+            os.makedirs(os.path.join(folder, "a_crate", "src"))
+            for name, text in (("lib", LIB), ("laws", LAWS), ("first", first)):
+                with open(os.path.join(folder, "a_crate", "src", f"{name}.rt"), "w", encoding="utf-8") as file:
+                    file.write(text)
+            with mock.patch.object(promises, "CRATES", folder):
+                return promises.rows_of_code("a_crate")
+
+    def test_rows_are_in_the_order_of_modules_and_lines(self):
+        with_end = FIRST[:FIRST.index("fn hidden")].replace("// Promise: It ends\n", "// Promise: It ends\n    // - by its signature\n")
+        self.assertEqual(self.rows(with_end), [
+            "| One is one | `laws::one_is_one` | the clause |",
+            "| Nothing is promised of what is private | `begin`, `Held::end` | its signature |",
+            "| The result is the number, and not another one | `begin` | `same` (`IsSame`), `bound` |",
+            "| It is bounded | `begin` | `bound` |",
+            "| It ends | `Held::end` | its signature |",
+        ])
+
+    def test_a_promise_by_no_clause_and_one_of_no_public_call_are_refused(self):
+        for first in (FIRST[:FIRST.index("fn hidden")], FIRST[FIRST.index("fn hidden"):]):
+            with self.assertRaisesRegex(promises.Refused, "has a promise of no public call, or by no clause"):
+                self.rows(first)
 
 
 if __name__ == "__main__":

@@ -42,6 +42,10 @@ impl KeptSums {
     pub fn of_prior(alloc: Global, prior: &[i32]) -> Result<KeptSums, Memory>
         requires some { 0 < length prior.now }
         requires few { length prior.now ≤ 61 }
+        // Promise: Kept sums begin as those of a prior, an answer is added to them in the same way,
+        // and they give the same sums back
+        // - of `KeptSums::of_prior`, `KeptSums::add`, `KeptSums::sums`
+        // - by `grid`, `additions`, `each`, `sums`
         ensures grid { IfOk result (λ sums. sums.grid ≡ length prior.now) }
         ensures additions { IfOk result (λ sums. sums.additions ≡ 0) }
         ensures sums { IfOk result (λ sums. (b : Tables) → b.grid ≡ length prior.now

@@ -38,6 +38,8 @@ impl Sums {
     pub fn of_prior(prior: &[i32]) -> Sums
         requires some { 0 < length prior.now }
         requires few { length prior.now ≤ 61 }
+        // Promise: The sums of a prior are the prior at each grid point, with no answer added
+        // - by `grid`, `additions`, `sums`
         ensures grid { result.grid ≡ length prior.now }
         ensures additions { result.additions ≡ 0 }
         ensures sums { (b : Tables) → b.grid ≡ length prior.now → IsSumsOf b prior.now [] result }
@@ -55,6 +57,9 @@ impl Sums {
 
     /// Adds an answer: an item of the bank and the response to it, from 0 on.
     pub fn add(&mut self, bank: &Bank, item: u16, response: u8)
+        // Promise: An answer turns the sums of a prior and some answers into those with one answer
+        // more; no sum wraps
+        // - by `grid`, `additions`, `each`, `sums`
         requires grid { self.old.grid ≡ bank.now.grid }
         requires item { item < size bank.now }
         requires response { response < categories bank.now item }
@@ -77,6 +82,8 @@ impl Sums {
     /// The lowest grid point at which the sum is greatest: the posterior mode of the prior and the
     /// answers added.
     pub fn mode(&self) -> u8
+        // Promise: The estimate is the posterior mode, the lowest grid point in a tie
+        // - by `lowest`, `mode`
         ensures lowest { IsLowestGreatest self.now result }
         ensures mode { (b : Tables) (prior : List ℤ) (answers : AnswerList)
             → IsSumsOf b prior answers self.now → IsPosteriorMode b prior answers result }

@@ -111,6 +111,9 @@ impl<D: Disk> Journal<D> {
             (λ walk. IsTrue (D.tells disk) → walk.at ≡ first_gate (D.content disk)) }
 
         // No rule is broken: the walk is to give the payloads that count.
+        // Promise: A walk begins only over a file that is a journal within the limit; another is
+        // refused with the fault that opening gives. It takes no memory
+        // - by `gives`, `sound`, `why`, `cause`, `no_memory`, `start`
         ensures gives { IfOk result (λ walk. IsTrue (D.tells disk)
             → contents (D.content disk) ≡ Some (counted_in (D.content disk))) }
         // The version of the header, and that of the records that count.
@@ -131,6 +134,12 @@ impl<D: Disk> Journal<D> {
         ensures no_memory { IfErr result (λ e. e.1 ≢ OpenFault.Memory) }
 
         // The file is not changed, also if the disk failed.
+        // Promise: A file that is walked over is not changed, also if the disk failed. At each
+        // moment of the tests of its frames a crash leaves what it might have left before, and
+        // after them the content alone, if nothing was suspect
+        // - of `Journal::walk`, `Walk::next`
+        // - by `untouched`, `untouched_err`, `moments`, `moments_err`, `settled`, `settled_err`,
+        //   `images`, `accounts`
         ensures untouched { IfOk result (λ walk. IsTrue (D.tells disk)
             → D.content walk.disk ≡ D.content disk) }
         ensures untouched_err { IfErr result (λ e. IsTrue (D.tells disk)
@@ -193,6 +202,9 @@ impl<D: Disk> Journal<D> {
             → AllowsSame D.may_become contents (D.content disk) }
         ensures ready { IfOk result (λ opened. IsReady opened.0) }
         ensures limit { IfOk result (λ opened. limit_of opened.0 ≡ limit) }
+        // Promise: A file is opened only where it is a journal within the limit; its payloads, with
+        // the places of their gates, are those of the records before the first closed gate
+        // - by `gives`, `keeps`, `places`, `sound`
         ensures gives { IfOk result (λ opened. IsTrue (D.tells disk)
             → contents (D.content disk) ≡ Some (second (map bytes_of opened.1.items))) }
         ensures keeps { IfOk result (λ opened. IsTrue (D.tells disk)
@@ -203,6 +215,8 @@ impl<D: Disk> Journal<D> {
             → start_of opened.0 ≡ first_gate (D.content disk)) }
         ensures places { IfOk result (λ opened. IsTrue (D.tells disk) → map at_of opened.1.items
             ≡ places_of (first_gate (D.content disk)) (map bytes_of opened.1.items)) }
+        // Promise: A file that is opened keeps its bytes up to its first closed gate, or becomes an
+        // empty journal if it had at most nine
         ensures content { IfOk result (λ opened. IsTrue (D.tells disk)
             → content_of opened.0 ≡ opened_file (D.content disk) (length_of opened.0)) }
 
@@ -210,10 +224,20 @@ impl<D: Disk> Journal<D> {
         // failed.
         ensures sound { IfOk result (λ opened. IsTrue (D.tells disk)
             → fault_in limit (D.content disk) ≡ None) }
+        // Promise: Another file is refused with its first fault: its length, its header, then frame
+        // by frame a length of 0 or above 131,072, or a record that is cut, with the place of the
+        // gate
+        // - by `why`, `sound`
+        // Promise: A journal of the first version that was not moved is not opened, and left byte
+        // for byte; a file of at most nine bytes becomes one of the second
+        // - by `why` (`IsOpenAnswer`), `untouched`, `content`
         ensures why { IfErr result (λ e. IsTrue (D.tells disk)
             → IsOpenAnswer limit (D.content disk) e.1) }
+        // Promise: `Disk` comes only where the disk's count of faults rose in this call
         ensures cause { IfErr result (λ e. e.1 ≡ OpenFault.Disk
             → Rose (D.faults disk) (D.faults e.0)) }
+        // Promise: A file that is refused for its bytes, or for lack of memory, is left byte for
+        // byte
         ensures untouched { IfErr result (λ e. e.1 ≢ OpenFault.Disk → IsTrue (D.tells disk)
             → D.content e.0 ≡ D.content disk) }
 
@@ -225,6 +249,11 @@ impl<D: Disk> Journal<D> {
         ensures moments_err { IfErr result (λ e. IsTrue (D.tells disk)
             → AtEachMoment (D.accounts disk) (D.accounts e.0)
             (IsImageOrHolds (latest (D.accounts disk)) (D.content disk))) }
+        // Promise: On a settled disk no file that a crash may leave at any moment of opening
+        // differs in its payloads, whether opening succeeds or fails. On a disk that a reboot or a
+        // journal left otherwise, each is one that a crash might have left before, or gives the
+        // same payloads
+        // - by `settled`, `settled_err`, `moments`, `moments_err`, `left` (`IsAsLeft`)
         ensures settled { IfOk result (λ opened. IsTrue (D.tells disk)
             → IsSettled (D.content disk) (D.accounts disk)
             → AtEachMoment (D.accounts disk) (accounts_of opened.0) (λ file. contents file
@@ -233,11 +262,17 @@ impl<D: Disk> Journal<D> {
             → IsSettled (D.content disk) (D.accounts disk)
             → AtEachMoment (D.accounts disk) (D.accounts e.0) (λ file. contents file
             ≡ contents (D.content disk))) }
+        // Promise: After opening each file that a crash may leave gives the payloads that were
+        // found, also where the last writer ended after a sync that failed
         ensures images { IfOk result (λ opened. IsTrue (D.tells disk)
             → AllImages (λ file. contents file ≡ Some (second (map bytes_of opened.1.items)))
             (latest (accounts_of opened.0))) }
 
         // What is cut was put aside before, and nothing else was.
+        // Promise: Opening puts aside what it cuts, from the gate at which the journal ends, and
+        // nothing else; where it fails, the same was put aside, or the file was only read
+        // - of `Journal::open`, `Walk::finish`
+        // - by `aside`, `aside_err` (`PutsTailAside`)
         ensures aside { IfOk result (λ opened. IsTrue (D.tells disk) → aside_of opened.0
             ≡ D.aside disk ++ tail_gates (D.content disk)) }
         ensures aside_err { IfErr result (λ e. IsTrue (D.tells disk)
@@ -269,16 +304,28 @@ impl<D: Disk> Journal<D> {
     /// Adds a record, by four calls of the disk: write, sync, open the gate, sync. No record may be
     /// in doubt before. At `Ok` it is on the disk. `Full` exactly where the new length, 5 bytes and
     /// the payload more, exceeds the limit. At `Disk` the record is in doubt. It takes no memory.
+    // Promise: `append` and `mend` take no memory, so these promises have no exception for it
+    // - of `Journal::append`, `Journal::mend`
+    // - by their signatures
     pub fn append(&mut self, frame: &Frame) -> Result<(), AppendFault>
         requires ready { IsReady self.old }
+        // Promise: The disk has to allow what the journal writes. Of a file with the payloads
+        // before it is a file with these or with the new one. In mending and opening it has the
+        // same payloads, in a move the old ones or the new ones
+        // - of `Journal::append`, `Journal::mend`, `Journal::open`, `Walk::finish`,
+        //   `Walk::start_move`, `Moving::add`, `Moving::switch`
+        // - by `comes` (`Allows`, `AllowsSame`)
         requires comes { IsTrue (tells_of self.old)
             → Allows D.may_become (HoldsJust (payloads_of self.old))
             (HoldsOrOneMore (payloads_of self.old) frame.now) }
         ensures ready { OnOk result (IsReady self.new) }
         ensures length { OnOk result (length_of self.new
             ≡ length_of self.old + 5 + length frame.now) }
+        // Promise: After `Ok` each file that a crash may leave gives the payloads with the new one
+        // - by `added`, `images`, `ready`
         ensures added { OnOk result (IsTrue (tells_of self.old)
             → payloads_of self.new ≡ payloads_of self.old ++ frame.now ∷ []) }
+        // Promise: After `Ok` the file is header, frames and one closed gate, byte for byte
         ensures content { OnOk result (IsTrue (tells_of self.old)
             → content_of self.new ≡ take (length_of self.old - 1) (content_of self.old)
             ++ 1 ∷ frame_of frame.now) }
@@ -288,16 +335,24 @@ impl<D: Disk> Journal<D> {
             (latest (accounts_of self.new))) }
         // At each moment of the call a crash leaves the payloads from before it, or those with the
         // new one.
+        // Promise: A record is there or not: at each moment since `append` began, each file that a
+        // crash may leave gives the payloads before it, or those with the new one
         ensures moments { IsTrue (tells_of self.old)
             → AtEachMoment (accounts_of self.old) (accounts_of self.new)
             (HoldsOrOneMore (payloads_of self.old) frame.now) }
 
         // None of them has other bytes before the closed gate.
+        // Promise: Adding and mending change no byte before the closed gate, or before that of the
+        // record in doubt
+        // - of `Journal::append`, `Journal::mend`
         ensures before { IsTrue (tells_of self.old)
             → AtEachMoment (accounts_of self.old) (accounts_of self.new)
             (λ file. take (length_of self.old - 1) file
             ≡ take (length_of self.old - 1) (content_of self.old)) }
 
+        // Promise: `Full` comes exactly where the new length, 5 bytes and the payload more, exceeds
+        // the limit; nothing was written then
+        // - by `full`, `fits`
         ensures full { IfErr result
             (λ e. OnFull e (λ n. (n ≡ length_of self.old + 5 + length frame.now)
             × (limit_of self.old < n) × (self.new ≡ self.old))) }
@@ -305,6 +360,9 @@ impl<D: Disk> Journal<D> {
             → result ≡ Err (AppendFault.Full (length_of self.old + 5 + length frame.now)) }
         ensures doubt { IfErr result
             (λ e. OnDisk e (IsDoubtful (payloads_of self.old) frame.now self.new)) }
+        // Promise: `Disk` comes only where the disk's count of faults rose in this call; this
+        // record, and no other, is then in doubt
+        // - by `cause`, `doubt`
         ensures cause { IfErr result
             (λ e. OnDisk e (Rose (faults_of self.old) (faults_of self.new))) }
         ensures length_err { OnErr result (length_of self.new ≡ length_of self.old) }
@@ -346,6 +404,10 @@ impl<D: Disk> Journal<D> {
         requires { (ps : _) × (payload : _) × IsDoubtful ps payload self.old
             × (IsTrue (tells_of self.old)
             → Allows D.may_become (HoldsJust ps) (HoldsJust ps)) }
+        // Promise: After mending nothing is in doubt. Each file that a crash may leave then gives
+        // the payloads with the record if it was kept, and without it if it was dropped. At each
+        // moment of the call each such file gives those with or without it
+        // - by `ready`, `mended`, `images`, `moments`
         ensures ready { OnOk result (IsReady self.new) }
         ensures mended { IfOk result (λ adopted. IsTrue (tells_of self.old) → (ps : _) (payload : _)
             → IsDoubtful ps payload self.old
@@ -354,6 +416,7 @@ impl<D: Disk> Journal<D> {
             → IsDoubtful ps payload self.old
             → AllImages (λ file. contents file ≡ Some (second (payloads_after adopted ps payload)))
             (latest (accounts_of self.new))) }
+        // Promise: A record in doubt is kept exactly where its gate reads open, and else cut off
         ensures gate { IfOk result (λ adopted. IsTrue (tells_of self.old)
             → IsTrue (slice_index (content_of self.old) (length_of self.old - 1) == 1)
             ↔ (adopted ≡ Adopted.Kept)) }
@@ -372,6 +435,9 @@ impl<D: Disk> Journal<D> {
 
         ensures cause { FailsOnly faults_of self.old self.new result }
         ensures length_err { OnErr result (length_of self.new ≡ length_of self.old) }
+        // Promise: If mending fails, the disk's count of faults has risen, and the record stays in
+        // doubt
+        // - by `still`, `cause`
         ensures still { OnErr result ((ps : _) (payload : _) → IsDoubtful ps payload self.old
             → IsDoubtful ps payload self.new) }
 
@@ -394,6 +460,7 @@ impl<D: Disk> Journal<D> {
     /// The length of the journal in bytes, without a record in doubt.
     pub fn length(&self) -> u64
         ensures length { result ≡ length_of self.now }
+        // Promise: The journal's length, its limit and the length in doubt are within their bounds
         ensures lengths { AreLengths (length_of self.now) (limit_of self.now) (doubt_of self.now)
             (start_of self.now) }
     {
@@ -423,6 +490,9 @@ impl<D: Disk> Journal<D> {
     pub fn read_frame(&mut self, alloc: Global, at: u64) -> Result<Option<Vec<u8>>, WalkFault>
         requires ready { IsReady self.old }
         requires gate { at < length_of self.old }
+        // Promise: The record after a gate is read again as it is, and none at the closed gate.
+        // Nothing changes
+        // - by `payload`, `end`, `ready`, `content`, `accounts`
         ensures payload { IfOk result (λ found. IsTrue (tells_of self.old) → (k : ℕ)
             → k < length (payloads_of self.old)
             → at ≡ end_of (start_of self.old) (take k (payloads_of self.old))

@@ -239,6 +239,12 @@ impl<D: Disk> Moving<D> {
         requires moving { IsTrue (D.tells self.old.disk) → (ps qs : List (List ℕ))
             × IsMovingWith ps qs (D.content self.old.disk) self.old.waiting
             (D.accounts self.old.disk) self.old.gate self.old.end }
+        // Promise: While a journal is moved its old records can be read, and new ones are added
+        // after the mark, within the limit. Fewer than 65,536 bytes of them wait in memory to be
+        // written. At each moment each file that a crash may leave gives the old payloads
+        // - of `Moving::read_old`, `Moving::add`
+        // - by `payload`, `end`, `added` (`IsMovingWith`), `few`, `memory`, `moments`, `full`,
+        //   `fits`
         ensures payload { IfOk result (λ found. IsTrue (D.tells self.old.disk)
             → (ps qs : List (List ℕ)) (k : ℕ) → IsMovingWith ps qs (D.content self.old.disk)
             self.old.waiting (D.accounts self.old.disk) self.old.gate self.old.end → k < length ps
@@ -320,6 +326,10 @@ impl<D: Disk> Moving<D> {
         requires { IsTrue (D.tells self.disk) → (ps qs : List (List ℕ))
             × IsMovingWith ps qs (D.content self.disk) self.waiting (D.accounts self.disk)
             self.gate self.end × Allows D.may_become (IsUnmoved ps) (GivesEither ps qs) }
+        // Promise: The switch makes only the new records count. At each moment each file that a
+        // crash may leave gives the old payloads by the first version, or the new ones by the
+        // second; after `Ok` it gives the new ones, and the file has the stated bytes
+        // - by `moved`, `content`, `settled`, `moments`, `moments_err` (`GivesEither`), `left_err`
         ensures moved { IfOk result (λ disk. IsTrue (D.tells self.disk)
             → (ps qs : List (List ℕ)) → IsMovingWith ps qs (D.content self.disk)
             self.waiting (D.accounts self.disk) self.gate self.end
@@ -372,6 +382,10 @@ impl<D: Disk> Moving<D> {
 
     /// The length of the file once the records that wait are written, in bytes.
     pub fn length(&self) -> u64
+        // Promise: The length of the file is known; a move may be given up, and its disk be opened
+        // again
+        // - of `Moving::length`, `Moving::stop`
+        // - by `length`, `disk`, `left`
         ensures length { result ≡ self.now.end }
         ensures few { result ≤ 536870918 }
     {

@@ -225,6 +225,10 @@ impl<D: Disk> Walk<D> {
     /// `None` and at a fault.
     pub fn next(&mut self, alloc: Global, buffer: &mut Vec<u8>) -> Result<Option<u64>, WalkFault>
         // The next one, where there is one.
+        // Promise: Walking gives the payloads that opening gives, one after another, each with the
+        // place of its gate: the next one, and none exactly after the last. The buffer then has
+        // just that payload
+        // - by `place`, `at`, `given`, `fits`, `payload`, `last`, `ended`
         ensures place { IfOk result (λ found. ForSome found (λ at. at ≡ self.old.at)) }
         ensures at { IfOk result (λ found. ForSome found
             (λ at. self.new.at ≡ at + 5 + length buffer.new.items)) }
@@ -242,6 +246,9 @@ impl<D: Disk> Walk<D> {
             ≡ (counted_in (D.content self.old.disk)).payloads) }
         ensures ended { IfOk result (λ found. found ≡ None → IsTrue (D.tells self.old.disk)
             → self.old.at + 1 ≡ self.old.size) }
+        // Promise: A walk that gave no payload is as it was, and so is the buffer. `Disk` comes
+        // only where the disk's count of faults rose
+        // - by `stays`, `kept`, `stays_err`, `kept_err`, `cause`
         ensures stays { IfOk result (λ found. found ≡ None
             → (self.new.at ≡ self.old.at) × (self.new.given ≡ self.old.given)) }
         ensures kept { IfOk result (λ found. found ≡ None → buffer.new ≡ buffer.old) }
@@ -290,6 +297,9 @@ impl<D: Disk> Walk<D> {
 
     /// The place of the next gate.
     pub fn place(&self) -> u64
+        // Promise: The place of the next gate and the length of the journal are known; `stop` gives
+        // the disk back as it was
+        // - of `Walk::place`, `Walk::length`, `Walk::stop`
         ensures { result ≡ self.now.at }
     {
         self.at
@@ -297,6 +307,11 @@ impl<D: Disk> Walk<D> {
 
     /// The version that the file's header names, 1 or 2; 2 for a file of at most nine bytes.
     pub fn version(&self) -> u8
+        // Promise: The version of the header, that of the records that count, and the place of the
+        // first of them are known
+        // - of `Walk::version`, `Walk::record_version`, `Journal::version`, `Journal::start`,
+        //   `Journal::walk`, `Journal::open`
+        // - by the clause, `versions`, `place`, `version`, `start`
         ensures { result ≡ self.now.header_version }
     {
         self.extent.version
@@ -332,6 +347,9 @@ impl<D: Disk> Walk<D> {
         ensures versions { (self.new.header_version ≡ self.old.header_version)
             × (self.new.record_version ≡ self.old.record_version) }
         ensures limit { self.new.limit ≡ self.old.limit }
+        // Promise: Putting aside what follows the first closed gate does not change the file, and
+        // names the place of that gate
+        // - by `untouched`, `accounts`, `aside`
         ensures untouched { IsTrue (D.tells self.old.disk)
             → D.content self.new.disk ≡ D.content self.old.disk }
         ensures accounts { IsTrue (D.tells self.old.disk)
@@ -364,6 +382,10 @@ impl<D: Disk> Walk<D> {
         ensures left { IsTrue (D.tells self.old.disk)
             → IsSettledOrInterrupted (D.content self.new.disk) (D.accounts self.new.disk) }
         // If that gate was being opened, it is on the disk now.
+        // Promise: The gate of the mark is on the disk again, where a switch that failed had left
+        // it suspect; a crash leaves what it might have left before
+        // - of `Walk::settle_mark`, `Journal::walk`
+        // - by `settled`, `left`, `moments`, `untouched`, `switching`
         ensures settled { OnOk result (IsTrue (D.tells self.old.disk)
             → self.old.header_version ≡ 1 → self.old.record_version ≡ 2
             → IsBeingSwitched (D.accounts self.old.disk)
@@ -387,6 +409,12 @@ impl<D: Disk> Walk<D> {
             ≡ (counted_in (D.content self.disk)).payloads }
         requires comes { IsTrue (D.tells self.disk)
             → AllowsSame D.may_become contents (D.content self.disk) }
+        // Promise: A file of which all payloads were given becomes a journal of these payloads, as
+        // by opening. Only the disk can fail, and it has counted that; only a disk that reports
+        // nothing may have lost a record, and its file is then not changed. No walk becomes a
+        // journal before the end of its file
+        // - by `ready`, `whole`, `keeps`, `content`, `moments`, `moments_err`, `images`, `why`,
+        //   `cause`, `untouched`
         ensures ready { IfOk result IsReady }
         ensures limit { IfOk result (λ journal. limit_of journal ≡ self.limit) }
         ensures length { IfOk result (λ journal. length_of journal ≡ self.size) }
@@ -480,6 +508,12 @@ impl<D: Disk> Walk<D> {
         requires comes { IsTrue (D.tells self.disk)
             → Allows D.may_become (IsUnmoved (counted_in (D.content self.disk)).payloads)
             (IsUnmoved (counted_in (D.content self.disk)).payloads) }
+        // Promise: A journal of the first version is made ready to be moved only at the end of its
+        // walk: what follows its closed gate is put aside and cut, and the mark is written after
+        // that gate. At each moment each file that a crash may leave is one that it might have left
+        // before, or gives the old payloads
+        // - by `moving` (`IsMovingWith`), `waiting`, `places`, `whole`, `moments`, `moments_err`,
+        //   `settled`, `settled_err`, `aside`, `aside_err`, `why`, `cause`
         ensures moving { IfOk result (λ moving. IsTrue (D.tells self.disk)
             → IsMovingWith (counted_in (D.content self.disk)).payloads [] (D.content moving.disk)
             moving.waiting (D.accounts moving.disk) moving.gate moving.end) }

@@ -27,6 +27,15 @@ pub struct Made {
 pub fn make(alloc: Global, number: u32, sessions: u32) -> Result<Made, Memory>
     requires some { 1 ≤ sessions }
     requires few { sessions ≤ 200 }
+    // Promise: The bank text has a header and a record for each of 120 items. The peak, height and
+    // quantity of item i are draws 3i, 3i + 1 and 3i + 2 of the number's generator
+    // - by the clause (`IsDrill`, `bank_of_drill`)
+    // Promise: The plan text is the canonical text of the stated plan: its lengths, prior, rate,
+    // key, limits, rows, bounds and base form
+    // - by the clause (`plan_of_drill`)
+    // Promise: The script has the sessions in groups of ten. Each answer takes the next draw for
+    // its response, and the last session is closed at step 10
+    // - by the clause (`script_of_drill`)
     ensures { IfOk result (λ made. IsDrill number sessions made) }
 {
     let mut draws = Draws::new(number);

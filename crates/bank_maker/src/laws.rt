@@ -18,6 +18,8 @@ ghost use Rattle.spec_reader.specs.Reading.{IsPlanText, most_bytes as most_of_pl
 /// Worked values of the drill of number 7, which `tools/drill_texts.py` computes from the rules
 /// alone.
 pub fn drill_of_seven()
+    // Promise: The definitions have the values that were computed outside
+    // - by `draws`, `first_item`, `last_item`, `base`, `script`
     ensures draws { draw 7 0 ∷ draw 7 1 ∷ draw 7 2 ∷ []
         ≡ 1059165278 ∷ 2052263231 ∷ 1946856753 ∷ [] }
     ensures first_item { drawn 7 0 ≡ record { peak = 6; height = 505; quantity = 53 } }
@@ -32,6 +34,9 @@ pub fn drill_of_seven()
 
 /// The script of a drill is a script of its requests, and is short enough to be read.
 pub fn a_script_is_read()
+    // Promise: The script is one of the stated requests, by the grammar of scripts, and is not too
+    // long to be read
+    // - by `script` (`IsScript`, `requests_of_drill`), `short`
     ensures script { (number sessions : ℕ) → sessions ≤ 200
         → IsScript (script_of_drill number sessions) (requests_of_drill number sessions) }
     ensures short { (number sessions : ℕ) → sessions ≤ 200
@@ -40,12 +45,18 @@ pub fn a_script_is_read()
 
 /// The bank text of a drill is the text of its bank, by the grammar of bank texts.
 pub fn a_bank_is_read()
+    // Promise: The bank text is that of a stated bank, by the grammar of bank texts: so it is read
+    // - by the clause (`IsBankText`, `tables_of_drill`)
     ensures { (number : ℕ) → IsBankText (bank_of_drill number) (tables_of_drill number) }
 {}
 
 /// The plan text of a drill is a text of a plan that is valid for the drill's bank, and is short
 /// enough to be read. Each plan that it is a text of has the stated numbers, sets and base form.
 pub fn a_plan_is_read()
+    // Promise: The plan text is a text of a plan that is valid for the stated bank and whose base
+    // form meets it, and is not too long to be read. Each plan that it is a text of is the stated
+    // one
+    // - by `plan` (`IsPlanOfDrill`, `IsPlanFor`), `short`, `one`
     ensures plan { (number sessions : ℕ) → 1 ≤ sessions → sessions ≤ 200
         → (p : Plan) × IsPlanOfDrill number sessions p }
     ensures short { (number sessions : ℕ) → 1 ≤ sessions → sessions ≤ 200

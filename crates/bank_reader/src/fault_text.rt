@@ -30,6 +30,7 @@ impl ReadFault {
     /// The line that reports to a user what is wrong with a bank text, with its line feed.
     #[tactic(auto, unfolding(crate::specs::Texts::bank_text, exam_text::specs::Texts::files_failed, exam_text::specs::Texts::no_memory))]
     pub fn text(self, alloc: Global) -> Result<String, AllocError>
+        // Promise: The line that is printed of a fault is the stated one
         ensures { IfOk result (λ line. string_bytes line ≡ bank_text self) }
     {
         match self {

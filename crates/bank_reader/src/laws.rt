@@ -8,6 +8,11 @@ ghost use Rattle.bank_reader.specs.declared.fault.ReadFault.{ReadFault};
 
 /// A text is read as a bank exactly where the grammar has it as the text of that bank.
 pub fn a_bank_text_is_read()
+    // Promise: The reading function that other crates cite gives a bank exactly of a text of the
+    // grammar, and a fault exactly where the text has it
+    // - of `laws::a_bank_text_is_read`, `laws::a_refused_text_has_its_fault`,
+    //   `laws::a_text_describes_one_bank`
+    // - by `read`, `again`
     ensures read { (text : List ℕ) (b : Tables) → bank_of text ≡ Ok b → IsBankText text b }
     ensures again { (text : List ℕ) (b : Tables) → IsBankText text b → bank_of text ≡ Ok b }
 {}

@@ -95,19 +95,34 @@ fn read_whole<S: Source>(alloc: Global, source: &mut S) -> Result<Bank, ReadFaul
 /// from 0 on; the log-likelihoods of responses that the item does not have are empty.
 pub fn read_bank<S: Source>(alloc: Global, source: &mut S) -> Result<Bank, ReadFault>
     // What is read is a bank text, and a bank text is read.
+    // Promise: What is read is a bank text by a grammar on its bytes, and the bank is the one that
+    // the text describes
     ensures found { IfOk result (λ b. IsTrue (S.tells source.old)
         → IsBankText (S.left source.old) b) }
+    // Promise: A text that follows the grammar and the bounds is refused only if memory runs out or
+    // the source has a fault
     ensures only { IfErr result (λ e. IsTrue (S.tells source.old)
         → (b : Tables) → IsBankText (S.left source.old) b → (e ≡ Memory) ⊎ (e ≡ fault.Source)) }
+    // Promise: A refusal names the first fault of the text. The first test is of its length. The
+    // next is of the header: the fault is the column where it fits no valid header. Then comes the
+    // first record that is no item, by its number of fields or by its first wrong column. The
+    // bounds are last
     ensures fault { IfErr result (λ e. IsTrue (S.tells source.old)
         → (e ≡ Memory) ⊎ (e ≡ fault.Source) ⊎ IsTextFault (S.left source.old) e) }
     // Each text has one answer.
+    // Promise: Each text has one answer
     ensures exact { IsTrue (S.tells source.old) → Reads (S.left source.old) result }
+    // Promise: After `Ok` the source was read to its end. `Source` comes only where its count rose
+    // in this call
+    // - by `whole`, `failed`
     ensures whole { IfOk result (λ _. IsTrue (S.tells source.old) → S.left source.new ≡ []) }
     ensures failed { IfErr result (λ e. e ≡ fault.Source
         → Rose (S.faults source.old) (S.faults source.new)) }
 
     // A bank, and what refuses a text, are answers only where there is something to read.
+    // Promise: A bank, or a fault of the text, comes only from a source that can be read at all;
+    // which names have files stays as it was
+    // - by `there`, `there_refused`, `has`
     ensures there { IfOk result (λ _. IsTrue (S.tells source.old) → IsTrue (S.there source.old)) }
     ensures there_refused { IfErr result (λ e. IsTrue (S.tells source.old)
         → (e ≡ Memory) ⊎ (e ≡ fault.Source) ⊎ IsTrue (S.there source.old)) }

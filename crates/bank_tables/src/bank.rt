@@ -55,8 +55,13 @@ impl Bank {
     /// variants, from `BadStimulus` on item by item. It takes no memory of its own, so
     /// `BankFault::Memory` is never given.
     pub fn of(_alloc: Global, rows: Rows) -> Result<Bank, BankFault>
+        // Promise: Rows become an item bank exactly where all their numbers are within their
+        // bounds, and the bank is those rows
+        // - by `bank`, `faultless`
         ensures bank { IfOk result (λ b. b ≡ rows) }
         ensures faultless { IfOk result (λ _. bank_fault rows ≡ None) }
+        // Promise: Else the fault is the first of the tests in their order, item by item; it is
+        // never out of memory
         ensures fault { IfErr result (λ f. bank_fault rows ≡ Some f) }
     {
         match first_fault(&rows) {
@@ -80,6 +85,10 @@ impl Bank {
 
     /// The number of items, 1 to 512.
     pub fn items(&self) -> u16
+        // Promise: Each accessor gives the bank's own number
+        // - of `Bank::items`, `Bank::grid`, `Bank::quantities`, `Bank::stimulus`,
+        //   `Bank::categories`, `Bank::quantity`, `Bank::info`, `Bank::loglik`
+        // - by the clause
         ensures items { result ≡ size self.now }
         ensures bank { IsBank self.now }
     {
@@ -102,6 +111,7 @@ impl Bank {
 
     /// The greatest stimulus number, at most 64.
     pub fn stimuli(&self) -> u8
+        // Promise: The number of stimuli is the greatest stimulus number
         ensures { result ≡ greatest_below (size self.now) (stimulus self.now) }
     {
         self.stimuli

@@ -29,6 +29,11 @@ impl Model for ItemSet {
 impl ItemSet {
     /// No items.
     pub fn empty() -> ItemSet
+        // Promise: Each operation on sets of items is the operation on their members, for every
+        // item
+        // - of `ItemSet::empty`, `ItemSet::has`, `ItemSet::with`, `ItemSet::without`,
+        //   `ItemSet::union`, `ItemSet::minus`, `ItemSet::meet`, `ItemSet::is_subset`,
+        //   `ItemSet::all_below`
         ensures { (i : ℕ) → has result i ≡ false }
     {
         ItemSet { words: [0; 8] }
@@ -129,6 +134,10 @@ impl ItemSet {
 
     /// The number of its members.
     pub fn count(&self) -> u32
+        // Promise: `count` is the number of members. `first` is the lowest member, and None exactly
+        // for the empty set
+        // - of `ItemSet::count`, `ItemSet::first`
+        // - by `count`, `lowest`
         ensures count { result ≡ size_of (has self.now) }
         ensures few { result ≤ 512 }
         ensures below { (i : ℕ) → 512 ≤ i → has self.now i ≡ false }
@@ -158,6 +167,8 @@ impl ItemSet {
 
     /// The lowest member from a number on. A walk over the members by it looks at each word once.
     pub fn first_from(&self, from: u16) -> Option<u16>
+        // Promise: `first_from` is the lowest member that is at least a number, and None exactly if
+        // there is none (`IsLowestFrom`)
         ensures lowest { MatchOption result ((i : ℕ) → from ≤ i
             → has self.now i ≡ false) (λ x. IsLowestFrom (has self.now) from x) }
         ensures item { IfSome result (λ x. x < 512) }

@@ -28,6 +28,11 @@ impl Model for Short {
 
 impl Short {
     /// No numbers.
+    // Promise: A list of at most 512 numbers, and a list of values, do what the operations on lists
+    // do
+    // - of `Short::empty`, `Short::len`, `Short::get`, `Short::push`, `List::of`, `List::as_slice`,
+    //   `List::push`
+    // - by `len`, `few`
     pub fn empty() -> Short
         ensures { result ≡ [] }
     {

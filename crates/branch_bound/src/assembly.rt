@@ -75,6 +75,7 @@ impl<'a> Assembled<'a> {
 
     /// Hands over the tree, without a copy.
     pub fn into_tree(self) -> Tree
+        // Promise: An assembly hands over the tree that it lends
         ensures { result ≡ self.entry.tree }
     {
         self.tree
@@ -82,6 +83,9 @@ impl<'a> Assembled<'a> {
 
     /// The outcome.
     pub fn outcome(&self) -> Outcome
+        // Promise: An assembly keeps the promise of its outcome and its tree by its type
+        // - of `Assembled::outcome`, `Assembled::tree`
+        // - by `outcome`, `promise`, `is_true`
         ensures outcome { result ≡ self.now.outcome }
         ensures promise { KeepsPromise self.now }
         ensures is_true { IsTrueOutcome (problem_of self.now.problem) result }
@@ -91,6 +95,8 @@ impl<'a> Assembled<'a> {
 
     /// Whether the fallback search made the tree, since what the search gave failed a test. The
     /// search is written so that this never happens, and a benchmark counts how often it did.
+    // Promise: Whether the fallback search made the tree, by the assembler's own account
+    // - by none: no clause covers it
     pub fn used_fallback(&self) -> bool
         ensures { result ≡ self.now.used_fallback }
     {
@@ -165,13 +171,30 @@ pub fn assemble<'a>(
 ) -> Result<Assembled<'a>, Memory>
     requires well_made { IsWellMade (problem_of problem) }
     requires budget { IsBudget budget }
+    // Promise: The problem and the budget are those it was called with
+    // - of `assemble`, `Assembled::problem`
+    // - by `problem`, `budget`
     ensures problem { IfOk result (λ a. a.problem ≡ problem.entry) }
     ensures budget { IfOk result (λ a. a.budget ≡ budget) }
     ensures hint { IfOk result (λ a. a.hint ≡ option_copied hint.entry) }
+    // Promise: The outcome is shown by its tree: a proved form by Optimal; an unproved one by
+    // Partial, and the tree spends the budget; no form by NoForm; none found by Partial without a
+    // form, and the tree spends the budget
+    // - by `assembly` (`IsAssembly`)
+    // Promise: A found form is one that no exchange of one item improves. It is no worse than the
+    // start and the hint, where these are forms; if one of them is a form, a form is found
+    // - of `assemble`, `Assembled::outcome`
+    // - by `assembly` (`firm`, `start`, `hint`), `promise`
+    // Promise: Where a row is impossible by counting on a path of the tree, the path ends in the
+    // Count leaf of the lowest such row
+    // - by `assembly` (`pruned`)
     ensures assembly { IfOk result (λ a.
         IsAssembly (problem_of problem.entry) (option_map has
         (option_copied hint.entry)) budget a.tree a.outcome) }
+    // Promise: Proved means best over all sets of items; no form means that no set is one
     ensures is_true { IfOk result (λ a. IsTrueOutcome (problem_of problem.entry) a.outcome) }
+    // Promise: With 2^(u+1) - 1 nodes, u being the free items and open stimuli at the root, it
+    // decides
     ensures decided { IfOk result (λ a.
         2 ^ (undecided (problem_of problem.entry) (root
         (problem_of problem.entry)) + 1) ≤ budget + 1 → IsDecided a.outcome) }
@@ -183,6 +206,8 @@ pub fn assemble<'a>(
 /// The same, with a vector of multipliers that the search may begin with, as the first one of the
 /// tree of a like problem. Its sides are those of the plan's rows and the bank's stimuli, or the
 /// two of the cap. The vector changes nothing in what is promised.
+// Promise: Whether a search begins with the vector
+// - by none: no clause covers it
 pub fn assemble_from<'a>(
     alloc: Global,
     problem: Problem<'a>,
@@ -192,6 +217,9 @@ pub fn assemble_from<'a>(
 ) -> Result<Assembled<'a>, Memory>
     requires well_made { IsWellMade (problem_of problem) }
     requires budget { IsBudget budget }
+    // Promise: A vector of multipliers that the search may begin with changes nothing in this. Each
+    // side that it names has to be one of the plan's, or of the cap
+    // - by `sides`; the others are those of the function without a vector
     requires sides { IfSome (option_copied warm) (NamesOnlySides (problem_of problem)) }
     ensures problem { IfOk result (λ a. a.problem ≡ problem.entry) }
     ensures budget { IfOk result (λ a. a.budget ≡ budget) }
@@ -229,6 +257,8 @@ pub fn assemble_by_fallback<'a>(
 ) -> Result<Assembled<'a>, Memory>
     requires well_made { IsWellMade (problem_of problem) }
     requires budget { IsBudget budget }
+    // Promise: The fallback search alone keeps each promise of `assemble`
+    // - by `problem`, `budget`, `hint`, `assembly`, `is_true`, `decided`
     ensures problem { IfOk result (λ a. a.problem ≡ problem.entry) }
     ensures budget { IfOk result (λ a. a.budget ≡ budget) }
     ensures hint { IfOk result (λ a. a.hint ≡ option_copied hint.entry) }

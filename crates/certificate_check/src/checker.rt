@@ -58,13 +58,21 @@ fn verdict(problem: &Problem, form: &Option<ItemSet>, tree: &Tree) -> Verdict
 /// `NoForm`, no set is a form.
 ///
 /// Takes no memory.
+// Promise: `check` and `spent` allocate nothing, cannot fail and cannot overflow
+// - of `check`, `spent`
+// - by their signatures; no `requires` on sizes
 pub fn check(problem: &Problem, form: Option<&ItemSet>, tree: &Tree) -> Verdict
     requires { IsWellMade (problem_of problem.now) }
+    // Promise: The verdict on a proof tree is the one by definition: the form is tested first, then
+    // the nodes in preorder; the first unsound node is named with its reason, else the Open leaves
+    // are counted
     ensures verdict { IsVerdict (problem_of problem.now)
         (option_map has (option_copied form.entry)) tree.now result }
+    // Promise: Where the verdict is Optimal, the set is a form and no set of items is a better form
     ensures optimal { result ≡ Verdict.Optimal
         → IsSomeAnd (option_copied form.entry)
         (λ items. Best (problem_of problem.now) (has items)) }
+    // Promise: Where the verdict is NoForm, no set of items is a form
     ensures no_form { result ≡ Verdict.NoForm → HasNoForm (problem_of problem.now) }
 {
     verdict(problem, &form.copied(), tree)

@@ -61,6 +61,10 @@ fn spent_to(
 /// Takes no memory.
 pub fn spent(problem: &Problem, tree: &Tree, budget: u16) -> bool
     requires { IsWellMade (problem_of problem.now) }
+    // Promise: A tree spends its budget exactly where it has that many nodes, an Open leaf, no
+    // branch after the first Open leaf, and an unresolved path at each branch and Open leaf. Each
+    // branch is on what is free or open. On an unresolved path no row is impossible by counting,
+    // and the plain bound is above a start that is a form
     ensures { IsTrue result ↔ IsSpent (problem_of problem.now) tree.now budget }
 {
     let nodes = tree.nodes();

@@ -72,6 +72,8 @@ impl Command<'_> {
     /// Whether it takes links of the doors: to serve, to follow or to ship. Each other command
     /// waits for nobody.
     pub fn uses_doors(&self) -> bool
+        // Promise: Whether a command takes links of the doors: to serve, to follow or to ship
+        // - by the clause (`UsesDoors`)
         ensures { MatchBool result (UsesDoors (said self.now)) (UsesDoors (said self.now) → ⊥) }
     {
         match self {

@@ -32,6 +32,9 @@ pub(crate) fn are_weights(word: &str) -> bool
 /// The weights that a word writes, in order.
 pub fn weights_of(alloc: Global, word: &str) -> Result<Vec<u32>, AllocError>
     requires { are_weights word.now ≡ true }
+    // Promise: The weights that a word writes are read in order, each from 0 to 1,000; the only
+    // error is lack of memory
+    // - by the clause (`are_weights`)
     ensures { IfOk result (λ weights. weights.items ≡ weights_of word.now) }
 {
     word.as_bytes()

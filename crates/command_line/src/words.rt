@@ -55,6 +55,10 @@ fn asked<'a>(matches: &ArgMatches<'a>) -> Option<Command<'a>>
 /// is empty or begins with a hyphen. `Memory` is lack of memory.
 #[tactic(auto, using(crate::proofs::Walking::any_mapped), unfolding(crate::specs::Commands::command_of))]
 pub fn command_of<'a>(alloc: Global, words: &'a [String]) -> Result<Option<Command<'a>>, Memory>
+    // Promise: The words ask for exactly the command that the table has for them, with the names of
+    // its files, or its numbers. No word that is empty or begins with a hyphen is taken, and no
+    // AHEAD but a number from 1 to 1,024. Out of memory is the only error
+    // - by the clause (`table`, `is_no_name`, `drill_of`, `server_of`)
     ensures command { IfOk result (λ command. option_map said command
         ≡ command_of (map (λ w. string_bytes w) words.entry.now)) }
     // the numbers of a drill are in their ranges

@@ -124,6 +124,9 @@ pub fn plan_breach(bank: &Bank, plan: &Draft, form: &ItemSet) -> Option<Breach>
 
 /// The first breach of a set of items, in the order of length, rows, stimuli, items given and items
 /// barred, with the value found; none exactly where the set is a form of the problem.
+// Promise: No breach is found exactly where the set is a form of the problem. Else it is the first,
+// in the order of length, rows, stimuli, given and barred items, with the value found
+// - by `IsFirstBreach`
 pub fn meets(problem: &Problem, form: &ItemSet) -> Option<Breach>
     requires { IsWellMade (problem_of problem.now) }
     ensures { IsFirstBreach (problem_of problem.now) (has form.now) result }
@@ -143,6 +146,8 @@ pub fn meets(problem: &Problem, form: &ItemSet) -> Option<Breach>
 /// Whether the set is a form of the problem.
 pub fn is_form(problem: &Problem, form: &ItemSet) -> bool
     requires { IsWellMade (problem_of problem.now) }
+    // Promise: A set is accepted as a form exactly if it is one
+    // - by the clause (`Form`)
     ensures { IsTrue result ↔ Form (problem_of problem.now) (has form.now) }
 {
     meets(problem, form).is_none()

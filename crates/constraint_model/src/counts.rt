@@ -14,6 +14,10 @@ use form_model::Row;
 
 /// The number of items of the bank in a set.
 pub fn size_in(bank: &Bank, items: &ItemSet) -> u32
+    // Promise: How many items of the bank a set has, how many of them have a stimulus, and which
+    // stimuli have one of them
+    // - of `counts::size_in`, `counts::items_of`, `counts::stimuli_used`
+    // - by `size`, `few`, `most`, the clause
     ensures size { result ≡ size_in bank.now (has items.now) }
     ensures few { result ≤ size bank.now }
     ensures most { result ≤ 512 }
@@ -94,6 +98,8 @@ fn stimuli_in(bank: &Bank, stimuli: &ItemSet) -> u32
 /// The activity of a row: the sum over a set of items and a set of stimuli.
 pub fn activity(bank: &Bank, row: &Row, items: &ItemSet, stimuli: &ItemSet) -> u32
     requires { IsRow bank.now row.now }
+    // Promise: What a row counts in a set of items and a set of stimuli, and its bounds
+    // - of `counts::activity`, `counts::lower_bound`, `counts::upper_bound`
     ensures { result ≡ activity bank.now row.now (has items.now) (has stimuli.now) }
 {
     match row {

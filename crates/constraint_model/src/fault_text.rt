@@ -11,6 +11,8 @@ impl SpecFault {
     /// The line that reports to a user what is wrong with a plan, with its line feed.
     #[tactic(auto, unfolding(crate::specs::Texts::draft_text, exam_text::specs::Texts::no_memory))]
     pub fn text(self, alloc: Global) -> Result<String, AllocError>
+        // Promise: The line that is printed of a fault is the stated one
+        // - by the clause (`draft_text`)
         ensures { IfOk result (λ line. string_bytes line ≡ draft_text self) }
     {
         match self {

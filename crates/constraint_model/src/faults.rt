@@ -118,6 +118,7 @@ fn is_prior(bank: &Bank, draft: &Draft) -> bool
 /// stimulus numbers of its text, and what is left by `Spec::of`.
 #[tactic(auto, unfolding(crate::specs::Faults::front_fault))]
 pub fn front_fault(bank: &Bank, draft: &Draft) -> Option<SpecFault>
+    // Promise: The faults from the length to the rows, before those of the bounds
     ensures { result ≡ front_fault bank.now draft.now }
 {
     if draft.length == 0 || draft.length > u32::from(bank.items()) {

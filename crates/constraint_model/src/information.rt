@@ -12,6 +12,8 @@ use bank_tables::ItemSet;
 /// The information of a set of items at the estimate, summed.
 pub fn objective(problem: &Problem, form: &ItemSet) -> u64
     requires { IsWellMade (problem_of problem.now) }
+    // Promise: The objective is the information of the set at the estimate; no sum wraps
+    // - by the clause (`objective`)
     ensures { result ≡ objective (problem_of problem.now) (has form.now) }
 {
     let items = problem.bank.items();

@@ -9,6 +9,8 @@ ghost use Rattle.certificate_model.specs.Weights.{price, bounds_price};
 pub fn price(sides: &[u32; 386], low_side: usize) -> i64
     requires sides { AreMultipliers (slice_index sides.now) }
     requires side { low_side + 1 < 386 }
+    // Promise: The price of a row or stimulus, and that of its bounds
+    // - of `prices::price`, `prices::bounds_price`
     ensures value { result ≡ price (slice_index sides.now) low_side }
     ensures within { IsWithin 16777216 result }
 {

@@ -36,6 +36,9 @@ impl<'a> Problem<'a> {
     /// aside, nothing given, nothing barred.
     pub fn whole(bank: &'a Bank, spec: &'a Spec) -> Problem<'a>
         requires { IsPlanFor bank.now spec.now }
+        // Promise: The plan's own problem is at the mode of the prior, with nothing given or
+        // barred, and is well made
+        // - by `whole` (`IsWhole`), `well_made`
         ensures whole { IsWhole bank.now spec.now (problem_of result) }
         ensures well_made { IsWellMade (problem_of result) }
     {
@@ -58,6 +61,7 @@ impl<'a> Problem<'a> {
     /// call, since no proof is generated where a parameter that holds references is moved as a
     /// whole.
     pub fn again(&self) -> Problem<'a>
+        // Promise: A problem made again is the same problem
         ensures { result ≡ self.now }
     {
         Problem {

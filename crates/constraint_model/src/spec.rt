@@ -45,8 +45,15 @@ impl Spec {
     /// order of `SpecFault`'s variants. It takes no memory of its own, so `SpecFault::Memory` is
     /// never given.
     pub fn of(_alloc: Global, bank: &Bank, draft: Draft) -> Result<Spec, SpecFault>
+        // Promise: A draft is taken exactly where it is a valid plan for the bank, and the plan
+        // then has the draft's numbers
+        // - by `same`, `valid`
         ensures same { IfOk result (λ spec. spec ≡ draft) }
         ensures valid { IfOk result (λ spec. IsPlanFor bank.now spec) }
+        // Promise: Else the first fault is named, in this order: length, prior, number of rows, row
+        // by row (bounds, empty set, unknown item, unknown quantity), the bounds of the stimuli,
+        // rate, bands, budgets, limits, base; it is never out of memory
+        // - by `fault` (`IsSpecFault`)
         ensures fault { IfErr result (λ fault. IsSpecFault bank.now draft fault) }
     {
         match first_fault(bank, &draft) {
@@ -67,6 +74,8 @@ impl Spec {
     /// tested again.
     pub fn of_tested(bank: &Bank, draft: Draft) -> Result<Spec, SpecFault>
         requires { front_fault bank.now draft ≡ None }
+        // Promise: A draft that was tested up to the bounds is a plan by the tests that are left
+        // - by `same`, `valid`, `fault`
         ensures same { IfOk result (λ spec. spec ≡ draft) }
         ensures valid { IfOk result (λ spec. IsPlanFor bank.now spec) }
         ensures fault { IfErr result (λ fault. IsSpecFault bank.now draft fault) }
@@ -86,6 +95,10 @@ impl Spec {
 
     /// Items per test.
     pub fn length(&self) -> u32
+        // Promise: A plan's numbers are read as they were given
+        // - of `Spec::length`, `Spec::prior`, `Spec::rows`, `Spec::bounds`, `Spec::rate`,
+        //   `Spec::key`, `Spec::budget`, `Spec::base_budget`, `Spec::sessions`, `Spec::journal`,
+        //   `Spec::base`
         ensures { result ≡ self.now.length }
     {
         self.draft.length
@@ -121,6 +134,8 @@ impl Spec {
 
     /// The key of the eligibility draw.
     pub fn key(&self) -> &[u8; 32]
+        // Promise: The key of a plan has 32 bytes
+        // - by `value`, `bytes` (`IsKey`)
         ensures value { result.now ≡ self.now.key }
         ensures bytes { IsKey self.now.key }
     {
@@ -130,6 +145,8 @@ impl Spec {
     /// The grid points at which a new band of abilities begins, in rising order; none where there
     /// is one band.
     pub fn bands(&self) -> &[u8]
+        // Promise: The points at which bands begin are those of the plan, at most 7
+        // - by `points`, `few`
         ensures points { result.now ≡ self.now.bands }
         ensures few { length self.now.bands ≤ 7 }
     {
@@ -139,6 +156,9 @@ impl Spec {
     /// The band of a grid point, numbered from 0 on: how many of the points at which bands begin
     /// are at most this one.
     pub fn band(&self, point: u8) -> u8
+        // Promise: The band of a grid point is the number of those points that are at most it; it
+        // is a band of the plan, and below 8
+        // - by `band` (`band_of`), `of_plan`, `few`
         ensures band { result ≡ band_of self.now point }
         ensures of_plan { result < bands_of self.now }
         ensures few { result < 8 }

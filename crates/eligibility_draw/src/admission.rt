@@ -10,6 +10,9 @@ use history_model::Counts;
 /// otherwise where the word, as a part of 2^32, is below the probability
 /// `num * eps / (den * alpha)`. No product wraps: each is below 2^96.
 pub fn admits(word: u32, rate: Rate, counts: Counts) -> bool
+    // Promise: An item is admitted exactly where its word is below 2^32 times its probability of
+    // eligibility, in exact whole numbers, or where it was never shown
+    // - by the clause (`is_admitted`)
     ensures { result ≡ is_admitted word rate counts }
 {
     let word_part = u128::from(word) * u128::from(rate.den) * u128::from(counts.alpha);

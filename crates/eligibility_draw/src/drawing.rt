@@ -19,6 +19,11 @@ use rand_core::utils::NextWord;
 #[tactic(auto, unfolding(history_model::specs::Draws::draw_word))]
 pub fn draw_band(key: &[u8; 32], rate: Rate, session: u32, band: u8, counters: &Counters) -> ItemSet
     requires { band < 8 }
+    // Promise: The draw in a band is the set of items that are admitted at the counts of that band.
+    // The word of an item is the ChaCha20 word of the plan's key, with the session as the stream
+    // and 512 times the band plus the item as the place. A plan without bands has the band 0 alone
+    // - of `draw_band`, `draw`
+    // - by the clause (`drawn`)
     ensures { (i : ℕ) → has result i
         ≡ drawn key.now rate session band (length counters.now.counts) (counts_at counters.now) i }
 {

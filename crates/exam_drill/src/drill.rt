@@ -55,7 +55,14 @@ fn examine(
 pub fn run_drill(alloc: Global, number: u32, sessions: u32) -> Result<Summary, DrillFault>
     requires some { 1 ≤ sessions }
     requires few { sessions ≤ 200 }
+    // Promise: The summary is that of a history to which the requests of the made script lead from
+    // the empty history, each done in turn. The bank, the plan and the requests are those that the
+    // made texts describe
+    // - by `ok` (`IsSummaryOfDrill`, `LeadsTo`)
     ensures ok { IfOk result (IsSummaryOfDrill number sessions) }
+    // Promise: A drill has no summary only because memory ran out. The bank, the plan and the
+    // script are never refused, and the journal has room for each record
+    // - by `err` (`IsDrillFault`)
     ensures err { IfErr result IsDrillFault }
 {
     a_bank_is_read();

@@ -10,6 +10,8 @@ use std::alloc::Global;
 /// memory.
 #[tactic(auto, unfolding(crate::specs::Texts::drill_text))]
 pub fn drill_line(alloc: Global, number: u32, sessions: u32) -> Result<String, Memory>
+    // Promise: The line that names a drill has its number and its number of sessions
+    // - by the clause (`drill_text`)
     ensures { IfOk result (λ line. string_bytes line ≡ drill_text number sessions) }
 {
     format!(in alloc; "drill {number} sessions {sessions}\n")

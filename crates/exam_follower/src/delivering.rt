@@ -99,19 +99,32 @@ impl<'a, D: Disk> Follower<'a, D> {
         number: u64,
         payload: &[u8],
     ) -> Result<u64, DeliverFault>
+        // Promise: A count is answered for an offer with the next number only where its record was
+        // taken, judged as an entry of the office's own is; an offer with another number leaves the
+        // records. The count is that of the records then
+        // - by `taken` (`Takes`), `count`
         ensures taken { IfOk result (λ _. Takes (may_follow self.old) (held_of self.old)
             (offer_of number payload.now) (held_of self.new)) }
         ensures count { IfOk result (λ n. n ≡ length (records_of self.new)) }
+        // Promise: An offer is refused only where its payload is no record or may not follow, and
+        // which of both is stated; for want of room only where it may follow; `Disk` comes only
+        // where the count of faults rose
+        // - by `fault` (`IsNotDelivered`), `failed`
         ensures fault { IfErr result
             (IsNotDelivered self.old self.new (offer_of number payload.now)) }
         ensures failed { IfErr result (λ e. e ≡ DeliverFault.Disk
             → Rose (faults_of self.old.office.journal) (faults_of self.new.office.journal)) }
         // What a crash may leave at each moment of the call.
+        // Promise: At each moment of a delivery each file that a crash may leave has the records,
+        // those with the one in doubt, or either with the record taken
+        // - by `stops` (`StopLeaves`)
         ensures stops { IsTrue (tells_of self.old.office.journal)
             → AtEachMoment (accounts_of self.old.office.journal)
             (accounts_of self.new.office.journal)
             (HasRecords (StopLeaves (may_follow self.old) (held_of self.old)
             (offer_of number payload.now))) }
+        // Promise: Bank, plan, base form and disk stay, and what was found at opening
+        // - by `later` (`IsSameFollower`)
         ensures later { IsSameFollower self.old self.new }
     {
         match self.mend() {

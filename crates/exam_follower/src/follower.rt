@@ -87,6 +87,10 @@ impl<'a, D: Disk> Follower<'a, D> {
         ensures legal { IfOk result (λ f.
             LegalRun bank.now spec.now (history f.office.marks)) }
         // Its records are those in the file.
+        // Promise: A follower is opened as an office is: its records are those of the file, and its
+        // history what the file represents. What is cut of the file was put aside before
+        // - by `records`, `stands`, `bank`, `plan`, `base`, `opened`, `sure`, `none`, `marks`,
+        //   `legal`, `short`, `images`, `settled`, `tail_aside`, `grows`, `tells`, `identity`
         ensures records { IfOk result (λ f. IsTrue (D.tells disk)
             → contents (D.content disk) ≡ Some (second (records_of f))) }
         // The file was within the journal's limit.
@@ -108,6 +112,10 @@ impl<'a, D: Disk> Follower<'a, D> {
             → AtEachMoment (D.accounts disk) (accounts_of f.office.journal)
             (StandsSecond bank.now spec.now (history f.office.marks))) }
         // What is wrong with the file, if anything is.
+        // Promise: A refusal has the first thing that is wrong with the file, and changes nothing
+        // unless the disk failed, which has counted that
+        // - by `why`, `cause`, `untouched`, `unwritten`, `settled_err`, `aside_kept`,
+        //   `tail_aside_err`, `frame_err`
         ensures why { IfErr result (λ e. IsTrue (D.tells disk)
             → IsOpenAnswer bank.now spec.now (D.content disk) e.1) }
         ensures cause { IfErr result (λ e. e.1 ≡ OfDisk → Rose (D.faults disk) (D.faults e.0)) }
@@ -151,6 +159,7 @@ impl<'a, D: Disk> Follower<'a, D> {
 
     /// How many records it has, without one in doubt.
     pub fn count(&self) -> u64
+        // Promise: The count is that of the records, without one in doubt
         ensures { result ≡ length (records_of self.now) }
     {
         self.office.records()
@@ -161,6 +170,11 @@ impl<'a, D: Disk> Follower<'a, D> {
     /// history, and with none in doubt the journal has them. Each file that a crash may leave has
     /// them, or these with the one in doubt.
     pub fn keeps(&self)
+        // Promise: The entries of the history are those found and those of the records taken. Of a
+        // disk that reports its content the records spell the history, and with none in doubt the
+        // journal has them. Each file that a crash may leave between two calls has them, or these
+        // with the one in doubt
+        // - by `history`, `spelled`, `journal`, `doubt`, `images`
         ensures history { history self.now.office.marks
             ≡ found self.now.office.marks ++ entries_of self.now.taken }
         ensures spelled { IsTrue (tells_of self.now.office.journal)
@@ -179,6 +193,10 @@ impl<'a, D: Disk> Follower<'a, D> {
     /// The office of it, which goes on where it is: a takeover. Its history is the entries of the
     /// follower, and it has each record that the follower answered for.
     pub fn promote(self) -> Office<'a, D>
+        // Promise: A takeover goes on with the follower's office and entries. Each record of the
+        // leader that is numbered below a have answered since the follower was opened has its entry
+        // there
+        // - by `office`, `history`, `answered` (`IsKeptByTakeover`)
         ensures office { result ≡ self.entry.office }
         ensures history { history result.marks
             ≡ found result.marks ++ entries_of self.entry.taken }
@@ -189,6 +207,10 @@ impl<'a, D: Disk> Follower<'a, D> {
             (history result.marks) }
         // So it is of the haves of all openings, which are events by one rule:
         // `laws::all_in_one_world`.
+        // Promise: So has each that is numbered below a have answered in any opening of the file,
+        // since that was a beginning of the leader's. The rule is that of the bank and the plan,
+        // for all openings
+        // - by `ever` (`IsKeptOverOpenings`)
         ensures ever { IsTrue (tells_of result.journal) → IsKeptOverOpenings self.entry
             (history result.marks) }
     {

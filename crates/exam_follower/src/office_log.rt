@@ -76,6 +76,8 @@ impl<'a, D: Disk> OfficeLog<'a, D> {
     /// The log of an office. No entry may be in doubt.
     pub fn new(office: Office<'a, D>) -> OfficeLog<'a, D>
         requires { office.doubt ≡ None }
+        // Promise: The log of an office is that office, and gives it back
+        // - of `OfficeLog::new`, `OfficeLog::into_office`
         ensures { result.office ≡ office.entry }
     {
         let cursor = office.cursor();

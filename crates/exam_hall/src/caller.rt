@@ -33,6 +33,9 @@ impl<'h, 'a, D: Disk, G: Gate + Observer> Model for Caller<'h, 'a, D, G> {
 
 impl<'h, 'a, D: Disk, G: Gate + Observer> Caller<'h, 'a, D, G> {
     /// A caller with this pass.
+    // Promise: A caller is its hall and its pass, and gives the pass back; the hall stays the same
+    // - of `Caller::new`, `Caller::into_pass`
+    // - by `pass`
     pub fn new(
         hall: &'h Hall<'a, D>,
         gate: &'h G,

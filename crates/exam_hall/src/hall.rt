@@ -83,11 +83,18 @@ impl<'a, D: Disk> Hall<'a, D> {
         alloc: Global,
         office: Office<'a, D>,
     ) -> Result<(Hall<'a, D>, Pass<Office<'a, D>>), Office<'a, D>>
+        // Promise: A new hall's pass has seen all marks of the office. If memory runs out the
+        // office is handed back as it was
+        // - by `pass`, `office`, `same`
         ensures pass { IfOk result (λ r. r.1
             ≡ new_pass r.0.lock 0
             (length (noted (opened_with office.entry) office.entry.marks))
             (noted (opened_with office.entry) office.entry.marks)) }
         ensures office { IfOk result (λ r. IsOfficeOf (opened_with office.entry) r.0) }
+        // Promise: A pass stays one of the hall, whose office has the hall's bank, plan and base
+        // - of `Hall::new`, `Hall::split`, `Hall::join`, `Hall::handle`, `Hall::ahead`,
+        //   `Caller::into_pass`
+        // - by `of` (`IsOf`)
         ensures of { IfOk result (λ r. IsOf r.1 r.0) }
         ensures same { IfErr result (λ o. o ≡ office.entry) }
     {
@@ -114,6 +121,10 @@ impl<'a, D: Disk> Hall<'a, D> {
     pub fn split(&self, pass: &mut Pass<Office<'a, D>>) -> Pass<Office<'a, D>>
         requires of { IsOf pass.old self.now }
         requires first { (pass.old.number ≡ 0) × (pass.old.splits < 65535) }
+        // Promise: A split pass has seen as much, and has a new number; a joined pass has the
+        // longer of what two passes have seen, and no entry was the own of both
+        // - of `Hall::split`, `Hall::join`
+        // - by `pass`, `new`, `new_of`, `joined`
         ensures pass { pass.new ≡ record pass.old { splits = pass.old.splits + 1 } }
         ensures new { result ≡ new_pass self.now.lock (pass.old.splits + 1) pass.old.start
             pass.old.seen }
@@ -140,8 +151,13 @@ impl<'a, D: Disk> Hall<'a, D> {
     /// Else nothing is promised of marks that only other passes have seen.
     pub fn close<R: Wait>(self, rt: &R, pass: Pass<Office<'a, D>>) -> Office<'a, D>
         requires of { IsOf pass self }
+        // Promise: The office at the end has a list of marks that begins with all that the closing
+        // pass has seen, and was opened with the same bank, plan, base and disk
         ensures begins { StartsWith (noted (opened_with result) result.marks)
             pass.entry.seen }
+        // Promise: If the closing pass is the first one, and as many passes were joined into it as
+        // were split from it, each mark since the hall was made is its own
+        // - by `all` (`KnowsAll`)
         ensures all { KnowsAll (noted (opened_with result) result.marks) pass.entry }
     {
         let Hall {
@@ -155,6 +171,7 @@ impl<'a, D: Disk> Hall<'a, D> {
 
     /// The base form. It takes no memory.
     pub fn base(&self) -> ItemSet
+        // Promise: The base form of a hall can be read
         ensures { result ≡ self.now.base }
     {
         self.base
@@ -175,9 +192,55 @@ impl<'a, D: Disk> Hall<'a, D> {
         request: &Request,
     ) -> Reply
         requires of { IsOf pass.old self.now }
+        // Promise: A request makes one turn on the office, and at most two more. What the pass had
+        // seen begins what it has seen afterwards, and the history is a legal run. The lengths
+        // after the turns never fall, and the last is that of all that the pass has seen
+        // - by `sees` (`Sees`, `Went`)
+        // Promise: What the call adds is its own, each entry once, in order, at places after all
+        // that the pass had seen: the request's first entry, then eligibility set aside, then an
+        // item served; or a part of these. Entries of other callers may come between
+        // - by `sees` (`IsPartOf`)
+        // Promise: An item is served, and eligibility set aside, only in a session that the history
+        // has, for an answer only where that is recorded
+        // - by `sees` (`IsServedFor`)
+        // Promise: Each form that the call served from is one that no exchange of one item betters,
+        // and is no worse than the base and the form before where these are forms. Eligibility is
+        // set aside with a spent budget only where neither the base nor the form before is one.
+        // Before the first item of a session with a list, the form before is that of the start. All
+        // this is by the history before the entry
+        // - by `sees` (`AreGoodAt`)
+        // Promise: The place of the reply is that of the request's session after the history that
+        // the pass has seen. A booking gives its session; for a request with a list, that session
+        // was started with the list. If an answer or a closing names a booking, the session is that
+        // of this booking. An answer is in that history, and a closing was added by this call.
+        // `fresh` is true exactly where this call started the session
+        // - by `sees` (`IsAt`, `IsSessionOf`, `IsOfNamed`)
+        // Promise: A reply that a session still waits for an item comes only where other callers
+        // served and answered in that session after the call's first turn
+        // - by `sees` (`MovedOn`)
+        // Promise: A refusal by a test is the first one that applies to the history, and nothing
+        // was added. So it is with `OtherBooking`, which comes by a test alone
+        // - by `sees` (`IsRefusedBy`)
+        // Promise: A request with a list is also refused where no form without its items is known:
+        // no set is one, or a search spent the base budget and found none. Then no test refuses it,
+        // its booking has no session, and nothing was added
+        // - by `sees` (`IsNotBegunBy`, `LacksForm`)
+        // Promise: A request that stops has not served an item. Either it has added nothing, and
+        // its first entry may follow; of a request with a list, its booking then has no session,
+        // and no test refuses it. Or its session waited for an item after the first turn, and still
+        // waits. Where the last mark is a fault, the history may not have been tested
+        // - by `sees` (`IsUnfinished`)
+        // Promise: If a request stops because the journal is full, the length named is that with a
+        // record of such an entry that may follow. A fault of the disk is the last mark, which this
+        // call added, of such an entry or of the one that was in doubt. With any other reply the
+        // call adds no fault
+        // - by `sees` (`Fails`, `NoFault`)
+        // Promise: The exposure counts are those of the history, and nothing was added
+        // - by `sees` (`IsExposed`)
         ensures sees { Sees self.now (marked pass.old) (marked pass.new) request.now result }
         ensures of { IsOf pass.new self.now }
         ensures grown { HasGrown pass.old pass.new }
+        // Promise: No reply is Stale, and the place of `IsClosed` is an end
         ensures reply { IsReply result }
     {
         self.handle_prepared(rt, alloc, gate, pass, request, None)
@@ -200,9 +263,19 @@ impl<'a, D: Disk> Hall<'a, D> {
     ) -> Reply
         requires of { IsOf pass.old self.now }
         requires prepared { IfSome prepared (IsPrepared self.now.bank self.now.plan self.now.base) }
+        // Promise: A request keeps each of these promises with a form that was prepared too. That
+        // is any assembly of the office's bank and plan, within the plan's budget, with the base as
+        // the hint
+        // - by `sees`, `reply`, `of`, `grown` (`IsPrepared`)
         ensures sees { Sees self.now (marked pass.old) (marked pass.new) request.now result }
         ensures of { IsOf pass.new self.now }
         ensures grown { HasGrown pass.old pass.new }
+        // Promise: Where a form is ready for the answer of a request, the item that the request
+        // serves at the next step is the next item of that form, with its mark and the number of
+        // nodes of its tree. A form is ready if it was found for the problem that the session has
+        // with this response after a history at or before the call. After that history no other
+        // caller may set eligibility aside for the session
+        // - by `used` (`Uses`, `IsReady`)
         ensures used { IfSome prepared.entry (Uses self.now (marked pass.old) (marked pass.new)
             request.now) }
         ensures reply { IsReply result }
@@ -233,6 +306,11 @@ impl<'a, D: Disk> Hall<'a, D> {
     /// for its turn. Refused where the disk failed again, or where there is no room for a mark.
     pub fn probe<R: Wait>(&self, rt: &R, pass: &mut Pass<Office<'a, D>>) -> Result<Health, Refusal>
         requires of { IsOf pass.old self.now }
+        // Promise: A look at the health makes one turn, and adds no entry of its own. It gives the
+        // health of the history that the pass has seen then; a fault of the disk is the last mark.
+        // An observer's look adds nothing at all
+        // - of `Hall::probe`, `Hall::health`
+        // - by `probes` (`Probes`), `watches` (`Watches`), `refusal`
         ensures probes { Probes self.now (marked pass.old) (marked pass.new) result }
         ensures of { IsOf pass.new self.now }
         ensures grown { HasGrown pass.old pass.new }
@@ -263,6 +341,11 @@ impl<'a, D: Disk> Hall<'a, D> {
         response: u8,
     ) -> Ahead<'a>
         requires of { IsOf pass.old self.now }
+        // Promise: A look ahead makes one turn and adds nothing. It finds that no step follows, or
+        // a problem and a vector that the search of it may begin with. The session has this problem
+        // once the response is recorded and the next item is to be served, if eligibility in its
+        // band is set aside or not as in the problem
+        // - by `foresees` (`Foresees`, `IsNextProblem`, `LeadsTo`, `HasNextStep`)
         ensures foresees { Foresees self.now session response (marked pass.old) (marked pass.new)
             result }
         ensures of { IsOf pass.new self.now }
@@ -291,6 +374,9 @@ impl<'a, D: Disk> Hall<'a, D> {
         requires bank { problem.now.bank.now ≡ self.now.bank }
         requires plan { problem.now.spec.now ≡ self.now.plan }
         requires fits { IfSome (option_copied warm) (FitsPlan self.now.bank self.now.plan) }
+        // Promise: What is assembled ahead is of the problem that was handed in, and may be handed
+        // to a request
+        // - by `problem`, `prepared` (`IsPrepared`)
         ensures problem { IfOk result (λ a. a.problem ≡ problem.now) }
         ensures prepared { IfOk result (IsPrepared self.now.bank self.now.plan self.now.base) }
     {

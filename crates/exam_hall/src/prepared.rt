@@ -35,6 +35,8 @@ fn has_item_sets(problem: &Problem)
 
 /// Whether two problems of one bank and plan are the same.
 pub fn is_same(made: &Problem, asked: &Problem) -> bool
+    // Promise: Whether two problems are the same in all but the bank and the plan can be asked
+    // - by the clause (`IsSameProblem`)
     ensures { IsTrue result ↔ IsSameProblem made.now asked.now }
 {
     made.session == asked.session

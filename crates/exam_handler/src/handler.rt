@@ -28,12 +28,20 @@ pub trait Handler {
 
     /// Answers a request.
     fn handle<R: Wait + Sync>(&mut self, rt: &R, alloc: Global, request: &Request) -> Reply
+        // Promise: A request does what the handler states in `does`; idle time changes the handler
+        // only as it states in `idles`
+        // - of `Handler::handle`, `Handler::idle`
         ensures does { does self.old request.now result self.new }
+        // Promise: No reply is Stale, and the place of `IsClosed` is an end
+        // - by `reply` (`IsReply`)
         ensures reply { IsReply result };
 
     /// Answers how the examination is, with no entry in doubt: if one is, it is resolved first, as
     /// before a request. Refused where the disk failed, or memory ran out.
     fn probe<R: Wait + Sync>(&mut self, rt: &R) -> Result<Health, Refusal>
+        // Promise: A look at the health does what the handler states in `probes`. It is refused for
+        // the disk or for lack of memory alone
+        // - by `probes`, `refusal` (`IsProbeRefusal`)
         ensures probes { probes self.old result self.new }
         ensures refusal { IfErr result IsProbeRefusal };
 

@@ -8,6 +8,8 @@ use exam_edge::OpenGate;
 pub trait Observer: Drop {
     /// Tells it how the examination is: once its journal was read, after each response, and at the
     /// end of its server.
+    // Promise: An observer is told how the examination is, and nothing is promised of what it does
+    // - by none
     fn see(&self, health: &Health);
 }
 

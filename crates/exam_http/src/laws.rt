@@ -20,6 +20,9 @@ use crate::Handler;
 
 /// A path names one route, or none.
 pub fn one_route()
+    // Promise: A path names one route or none; what was answered are the messages of the bytes, one
+    // after another; the response of a first item is the stated text
+    // - of `laws::one_route`, `laws::messages_are_served`, `laws::response_of_a_first_item`
     ensures { (path : List ℕ) (o q : Option Route) → Names path o → Names path q → o ≡ q }
 {}
 

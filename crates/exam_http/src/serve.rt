@@ -207,6 +207,10 @@ fn serve_all<R: Wait + Sync, H: Handler, K: Link>(
 /// refused, and does nothing, but for a look at the health. `busy` is how many workers serve a
 /// connection now. Whatever the link tells of its bytes, nothing but requests, looks at the health
 /// and idle time changes the handler.
+// Promise: At each moment, also of a connection that never ends, what was written is responses to
+// the messages of the connection's bytes, in order, and a beginning of the next: of a link it is
+// asked to allow no more
+// - by the condition (`AllowsServed`)
 pub fn serve_connection<R: Wait + Sync, H: Handler, K: Link>(
     rt: &R,
     alloc: Global,
@@ -221,11 +225,34 @@ pub fn serve_connection<R: Wait + Sync, H: Handler, K: Link>(
     requires { IsTrue (K.tells link.old)
         → AllowsServed (option_copied token) H.does H.probes H.idles (K.allows link.old)
         handler.old (K.left link.old) (K.written link.old) }
+    // Promise: Only requests, looks at the health and idle time change the handler, also where the
+    // connection does not report its bytes
+    // - by `leads` (`LeadsTo`)
     ensures leads { LeadsTo H.does H.probes H.idles handler.old handler.new }
+    // Promise: The responses written are those to the messages of the connection's bytes, in order,
+    // by whatever handler; `Done` and `BadInput` come exactly by the bytes; if the connection
+    // fails, what was written is a beginning of them
+    // - by `served` (`IsServed`)
+    // Promise: A message that may ask, on this route and with a booking, asks for a session with a
+    // list exactly where its last member `without` has numbers. These are an array, one or more,
+    // each in digits alone and at most 511. The list is the set of these items. Without such a
+    // member, or with an empty array, it asks for one without a list; with any other value it asks
+    // nothing
+    // - by `served` (`Asks`, `BeginOf`)
+    // Promise: The booking of an answer is that of its body's last member `booking`, in digits
+    // alone and below 2^64. A body without it names none, and one with any other value asks
+    // nothing. A close has the same rule; of a body that is no JSON it names none
+    // - by `served` (`Asks`, `booking_member`, `IsClosing`)
+    // Promise: Where the server has a token, a message that does not bear it asks nothing, but for
+    // the health. Without a token no message is refused for the lack of one
+    // - of `serve_connection`, `laws::nothing_without_the_token`,
+    //   `laws::without_a_token_all_may_ask`
+    // - by `served` (`Asks`), the clause
     ensures served { IsTrue (K.tells link.old) → (text : List ℕ)
         × (K.written link.new ≡ K.written link.old ++ text)
         × IsServed (option_copied token.entry) H.does H.probes H.idles handler.old
         (K.left link.old) text handler.new result }
+    // Promise: `Link` comes only where the connection's count of faults rose
     ensures failed { result ≡ Ended.Link → Rose (K.faults link.old) (K.faults link.new) }
     ensures frame { IsLent K.tells K.identity K.faults link.old link.new }
 {

@@ -55,6 +55,9 @@ fn push_band(
 /// The lines of bands, each with its line feed, band by band from band 0 on: `band B visited V`,
 /// and for each item `band B item I shown A eligible E`. `Memory` is lack of memory.
 pub fn bands_text(alloc: Global, bands: &[Exposure]) -> Result<String, Memory>
+    // Promise: The lines of bands are the stated ones, band by band from 0 on: how many sessions
+    // visited the band, and then the counts of each item there
+    // - by the clause (`bands_text`)
     ensures { IfOk result (λ lines. string_bytes lines ≡ bands_text bands.now) }
 {
     let mut out = String::new(alloc);

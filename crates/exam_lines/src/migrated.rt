@@ -10,6 +10,9 @@ use std::alloc::Global;
 /// feed: `migrated R records length L`. `Memory` is lack of memory.
 #[tactic(auto, unfolding(crate::specs::Texts::migrated_text))]
 pub fn migrated_line(alloc: Global, records: u64, length: u64) -> Result<String, Memory>
+    // Promise: The line of a migration has how many records were written, and the length of the
+    // journal then
+    // - by the clause (`migrated_text`)
     ensures { IfOk result (λ line. string_bytes line ≡ migrated_text records length) }
 {
     format!(in alloc; "migrated {records} records length {length}\n")

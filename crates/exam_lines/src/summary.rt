@@ -35,6 +35,9 @@ fn forms_part(alloc: Global, summary: &Summary) -> Result<String, Memory>
 /// memory.
 #[tactic(auto, unfolding(crate::specs::Texts::summary_text))]
 pub fn summary_line(alloc: Global, summary: &Summary) -> Result<String, Memory>
+    // Promise: The line of a summary has each of its seven numbers after its name, in the stated
+    // order, and the line feed
+    // - by the clause (`summary_text`)
     ensures { IfOk result (λ line. string_bytes line ≡ summary_text summary.now) }
 {
     let mut line = sessions_part(alloc, summary)?;

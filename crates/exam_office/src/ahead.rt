@@ -36,8 +36,17 @@ impl<'a, D: Disk> Office<'a, D> {
     /// answer comes. None where the session waits for no answer, the item has no such response, or
     /// the item is the last one. It takes no memory.
     pub fn ahead(&self, session: u32, response: u8) -> Option<Problem<'a>>
+        // Promise: Before its item is answered, a session's next problem with a response is known:
+        // exactly where the item has that response and is not the last one. It is the problem of
+        // the history with that answer added, and well made
+        // - of `Office::ahead`, `Office::next_responses`
+        // - by `ahead` (`IsNextProblem`), `none`, the clause (`HasNextStep`)
         ensures ahead { IfSome result (IsNextProblem self.now.bank self.now.plan
             (history self.now.marks) session response) }
+        // Promise: Whatever is done meanwhile, once that response is recorded and the next item is
+        // to be served, it is the session's problem, if eligibility is set aside in its band
+        // exactly where it is in that problem
+        // - by `leads` (`LeadsTo`)
         ensures leads { IfSome result (LeadsTo self.now.bank self.now.plan
             (history self.now.marks) session response) }
         ensures none { IfNone result (HasNextStep self.now.bank self.now.plan

@@ -20,6 +20,10 @@ use std::alloc::Global;
 impl<'a, D: Disk> Office<'a, D> {
     /// The place of a session.
     pub fn look(&self, session: u32) -> Result<Place, Refusal>
+        // Promise: Where a session is, its problem, the exposure counts and the summary are those
+        // of the history
+        // - of `Office::look`, `Office::problem`, `Office::exposure`, `Office::summary`
+        // - by `at`, `refused`, `problem`, `well_made`, `none`, `exposure`, `memory`
         ensures at { IfOk result (λ at. place self.now.plan (history self.now.marks) session
             ≡ Some at) }
         ensures refused { IfErr result (λ refusal. refusal_of self.now.bank self.now.plan
@@ -100,9 +104,21 @@ impl<'a, D: Disk> Office<'a, D> {
         booking: Option<u64>,
     ) -> Result<Place, Refusal>
         ensures same { IsSameOffice self.old self.new }
+        // Promise: An answer or a closing that names a booking is refused with `OtherBooking`
+        // exactly where its session is there and is not that of this booking. So this refusal comes
+        // before that of the step, of a response and of a closed session. The history is the one
+        // that the call finds once the entry in doubt is resolved, and the call adds no entry of
+        // its own
+        // - of `Office::answer`, `Office::close`
+        // - by `call` (`FindsAnswer`, `FindsClosing`, `is_of_another`, `unless_other`)
         ensures call { Calls
             (FindsAnswer self.old.bank self.old.plan session step response booking) self.old
             self.new (refused_with result) }
+        // Promise: The place in the reply is that of the history after the call. A booking gives
+        // its session, and `fresh` is true exactly where this call started it
+        // - of `Office::answer`, `Office::commit`, `Office::close`, `Office::begin`,
+        //   `Office::begin_without`
+        // - by `at`, `session`, `fresh`
         ensures at { IfOk result (λ at. place self.new.plan (history self.new.marks) session
             ≡ Some at) }
         ensures images { OnOk result (IsTrue (tells_of self.old.journal)

@@ -63,11 +63,24 @@ impl<'a, D: Disk> Office<'a, D> {
     /// an entry is of this office's base form is not asked.
     pub fn append_record(&mut self, alloc: Global, rec: &Record) -> Result<(), Taken>
         ensures same { IsSameOffice self.old self.new }
+        // Promise: A record that another office wrote is appended only if it may follow the history
+        // that is there once the entry in doubt is resolved. It is the last one then, and is on the
+        // disk: each file that a crash may leave represents the history with it
+        // - by `appended` (`IsAppended`), `payloads`, `images`
         ensures appended { OnOk result (IsAppended self.old self.new rec.now) }
+        // Promise: A record that is not appended has its cause: the first reason why it may not
+        // follow, the length above the limit, or a disk whose count of faults rose. Nothing of it
+        // is written but in the last case, and then it is in doubt
+        // - by `fault` (`IsNotAppended`), `unchanged`, `doubtful`
         ensures fault { IfErr result (IsNotAppended self.old self.new rec.now) }
         ensures images { OnOk result (IsTrue (tells_of self.old.journal)
             → AllImages (StandsSecond self.old.bank self.old.plan (history self.new.marks))
             (latest (accounts_of self.new.journal))) }
+        // Promise: At every moment of that call each file that a crash may leave represents the
+        // history before or that with the entry in doubt, or either of them with the record's entry
+        // where it may follow. With nothing in doubt before, its payloads are those of the journal,
+        // or these and the record's
+        // - by `moments` (`FindsRecord`), `left`
         ensures moments { IsTrue (tells_of self.old.journal)
             → AtEachMoment (accounts_of self.old.journal) (accounts_of self.new.journal)
             (IsLeft self.old.bank self.old.plan

@@ -131,6 +131,11 @@ impl<'a, D: Disk> Office<'a, D> {
         requires { MayBeCommitted self.old.bank self.old.plan self.old.base
             (history self.old.marks) assembled.now }
         ensures same { IsSameOffice self.old self.new }
+        // Promise: An assembled form is committed only for a session that still waits for it, with
+        // eligibility in the band of its estimate set aside or not as then; else the reply is where
+        // the session is now, and that flag
+        // - of `Office::commit`, `laws::may_be_committed`
+        // - by `call` (`FindsCommit`)
         ensures call { Calls
             (FindsCommit self.old.bank self.old.plan assembled.now) self.old self.new
             (refused_with result) }

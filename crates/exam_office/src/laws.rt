@@ -8,6 +8,10 @@ ghost use Rattle.exam_office.specs.Allowing.{HistoriesGoOn};
 use exam_edge::Disk;
 
 /// A file represents at most one history.
+// Promise: A file represents at most one history, which is a legal run, and such a file is never
+// refused for its bytes
+// - of `laws::one_history`, `laws::stands_for_legal_run`, `laws::standing_is_opened`
+// - by `OneHistory`, `StandsForLegalRun`, `StandingIsOpened`
 pub fn one_history()
     ensures { OneHistory }
 {}
@@ -45,6 +49,9 @@ pub fn each_moment_stands()
 
 /// If the disk was settled when it was handed in, each such file represents the history found also
 /// while the office was opened.
+// Promise: If the disk was settled when it was handed in, each such file represents the history
+// that was found also while the office was opened
+// - by `SettledMomentStands`
 pub fn settled_moment_stands()
     ensures { SettledMomentStands }
 {}
@@ -57,6 +64,9 @@ pub fn may_be_committed()
 
 /// A request that isn't refused is answered: where its session is, the counts, or out of memory;
 /// unless the disk counts a fault, or the next record is above the journal's limit.
+// Promise: A request that is not refused is answered, unless it is out of memory, the disk counts a
+// fault, the journal is full, or no form without the items of its list is known
+// - by `AskedIsAnswered`
 pub fn asked_is_answered<D: Disk>()
     ensures { AskedIsAnswered D }
 {}
@@ -64,5 +74,9 @@ pub fn asked_is_answered<D: Disk>()
 /// A file within the limit that represents a history is not migrated only if memory runs out, by a
 /// fault of the disk, or because it would be too long once its records are moved.
 pub fn migrate_is_complete()
+    // Promise: A file within the limit that represents a history is migrated, or would be too long,
+    // or memory or the disk fails. Either version of such a file is read without a refusal
+    // - of `laws::migrate_is_complete`, `laws::standing_is_read`
+    // - by the clause (`MigrateIsComplete`, `StandingIsRead`)
     ensures { MigrateIsComplete }
 {}

@@ -62,6 +62,10 @@ impl<'a, D: Disk> Office<'a, D> {
         witness: Result<ItemSet, Refusal>,
     ) -> Reply
         requires { IsWitnessFor self.old.bank self.old.plan request.now witness }
+        // Promise: What a request does first is by the clauses of its own call: its first entry is
+        // added where it is not there yet. The reply has the place of its session, the exposure
+        // counts, or the refusal of that call
+        // - by the clause (`IsLead`)
         ensures { IsLead request.now witness self.old self.new result }
     {
         match request {

@@ -663,6 +663,10 @@ pub fn migrate<D: Disk>(
     requires allows { AllowsHistories bank.now spec.now D.may_become }
     // The file represented a history. If that was by the first version, it has the same records by
     // the second now, and these count; else it is as it was.
+    // Promise: A migration leaves a file of exactly the old records, a mark, and the same records
+    // in the second version; a journal of the second version is left as it is. The file represents
+    // the history that it represented before, and is within the limit
+    // - by `migrated` (`IsMigrated`), `stands`, `limit`
     ensures migrated { IfOk result (λ done. IsTrue (D.tells disk)
         → IsMigrated bank.now spec.now (D.content disk) (D.content done.1)
         (D.accounts done.1) done.0) }
@@ -686,6 +690,10 @@ pub fn migrate<D: Disk>(
         → Stands bank.now spec.now H (D.content disk)
         → AtEachMoment (D.accounts disk) (D.accounts e.0) (Stands bank.now spec.now H)) }
     // Of any other, it represents the history, or a crash might have left it before.
+    // Promise: At each moment of a migration each file that a crash may leave is one that it might
+    // have left before, or represents the same history. On a settled disk it represents that
+    // history, whether the migration ends well or not
+    // - by `moments`, `moments_err`, `settled`, `settled_err`, `images`
     ensures moments { IfOk result (λ done. IsTrue (D.tells disk) → (H : List Entry)
         → Stands bank.now spec.now H (D.content disk)
         → AtEachMoment (D.accounts disk) (D.accounts done.1)
@@ -697,6 +705,10 @@ pub fn migrate<D: Disk>(
 
     // What is wrong with the file, if anything is. Nothing is wrong with a file within the limit
     // that represents a history; it may be too long once it is moved.
+    // Promise: A migration is refused with the first fault of the file, or since the new length
+    // exceeds the limit, before anything is written. Unless the file represents a history by
+    // records of the first version, no fault at all lets it write
+    // - by `why` (`IsMigrateAnswer`), `untouched`, `unwritten`, `unwritten_err`, `open`, `cause`
     ensures why { IfErr result (λ e. IsTrue (D.tells disk)
         → IsMigrateAnswer bank.now spec.now (D.content disk) e.1) }
     ensures cause { IfErr result (λ e. e.1 ≡ NoDisk → Rose (D.faults disk) (D.faults e.0)) }
@@ -722,9 +734,15 @@ pub fn migrate<D: Disk>(
         → IsBeingSwitched (D.accounts disk)
         → IsSettled (D.content done.1) (D.accounts done.1)) }
     // A refusal for the content of the file puts nothing aside.
+    // Promise: A refusal for the content of the file puts nothing aside. An opening that fails for
+    // another reason than the disk puts nothing aside either
+    // - of `migrate`, `Office::open`
     ensures aside_kept { IfErr result (λ e. IsOfContent e.1 → IsTrue (D.tells disk)
         → D.aside e.0 ≡ D.aside disk) }
     // What is cut was put aside before, and nothing else was.
+    // Promise: What a migration cuts was put aside before, and the gate of the mark is on the disk
+    // after it; where memory runs out the old records still count
+    // - by `aside`, `aside_err`, `switched`, `kept`
     ensures aside { IfOk result (λ done. IsTrue (D.tells disk) → D.aside done.1
         ≡ D.aside disk ++ moved_tail (D.content disk)) }
     ensures aside_err { IfErr result (λ e. IsTrue (D.tells disk)

@@ -50,6 +50,11 @@ impl<'a, D: Disk> Office<'a, D> {
         requires plan { IsPlanFor bank.now spec.now }
         requires base { Meets bank.now spec.now (has base) }
         requires left { IsTrue (D.tells disk) → IsAsLeft (D.accounts disk) }
+        // Promise: An office and a migration ask of the disk only that it allows each history to go
+        // on: of a file that represents it, each that represents it with or without further
+        // entries. A disk may allow no more than that
+        // - of `Office::open`, `migrate`, `laws::histories_go_on`
+        // - by `allows` (`AllowsHistories`), the clause (`HistoriesGoOn`)
         requires allows { AllowsHistories bank.now spec.now D.may_become }
         ensures bank { IfOk result (λ office. office.bank ≡ bank.now) }
         ensures plan { IfOk result (λ office. office.plan ≡ spec.now) }
@@ -57,16 +62,24 @@ impl<'a, D: Disk> Office<'a, D> {
         ensures opened { IfOk result (λ office. office.opened
             ≡ handed D.content D.accounts D.faults disk) }
         ensures sure { IfOk result (λ office. office.doubt ≡ None) }
+        // Promise: The history of an opened office is legal, also over a disk that reports nothing
         ensures legal { IfOk result (λ office. LegalRun bank.now spec.now (history office.marks)) }
         ensures marks { IfOk result (λ office. office.marks ≡ map Old
             (history office.marks) ++ Opened (reach office.marks) ∷ []) }
         // The file represented the history, and so does each file that a crash may leave now.
+        // Promise: A file is opened only if its bytes represent a history, which is then the
+        // office's. After `Ok` the content and each file that a crash may leave represent it. While
+        // it is opened, each such file does too, or is one that a crash might have left before,
+        // whether opening succeeds or fails. On a settled disk each does
+        // - by `stands`, `images`, `moments` (`AreOpeningMoments`), `moments_err`, `settled`,
+        //   `settled_err`, `marks`
         ensures stands { IfOk result (λ office. IsTrue (D.tells disk)
             → Stands bank.now spec.now (history office.marks) (D.content disk)) }
         // Its records were of the second version.
         ensures version { IfOk result (λ office. IsTrue (D.tells disk)
             → (counted_in (D.content disk)).version ≡ 2) }
         // The journal has its payloads.
+        // Promise: The journal of an opened office has the payloads of the file that was handed in
         ensures payloads { IfOk result (λ office. IsTrue (D.tells disk)
             → contents (D.content disk) ≡ Some (second (payloads_of office.journal))) }
         // The file was within the journal's limit.
@@ -95,10 +108,19 @@ impl<'a, D: Disk> Office<'a, D> {
             → AtEachMoment (D.accounts disk) (D.accounts e.0) (Stands bank.now spec.now H)) }
         // What is wrong with the file, if anything is. Nothing is wrong with a file within the
         // limit that represents a history by records of the second version.
+        // Promise: Another file is refused with its first fault: those of the journal's frames,
+        // then the first record that is none or may not follow, with its place. A record is judged
+        // with what the bytes leave out: the draws of the other bands, and the step and the band of
+        // a setting aside. A mark of proof without its tree is such a fault. `Disk` comes only
+        // where the disk's count of faults rose
+        // - by `why`, `cause`
         ensures why { IfErr result (λ e. IsTrue (D.tells disk)
             → IsOpenAnswer bank.now spec.now (D.content disk) e.1) }
         ensures cause { IfErr result (λ e. e.1 ≡ OfDisk → Rose (D.faults disk) (D.faults e.0)) }
         // A refusal for any other reason changes nothing, at any moment.
+        // Promise: A file that is refused for its frames, for its records, or for lack of memory,
+        // is left byte for byte. At each moment a crash leaves what it might have left before
+        // - by `untouched`, `unwritten`
         ensures untouched { IfErr result (λ e. e.1 ≢ OfDisk → IsTrue (D.tells disk)
             → D.content e.0 ≡ D.content disk) }
         ensures unwritten { IfErr result (λ e. e.1 ≢ OfDisk → IsTrue (D.tells disk)
@@ -156,10 +178,14 @@ impl<'a, D: Disk> Office<'a, D> {
     /// leave represent the history. If an entry is in doubt, each represents the history or that
     /// with the entry.
     pub fn into_disk(self) -> D
+        // Promise: The disk that is handed back represents the history, or, with an entry in doubt,
+        // the history with or without that entry
+        // - by `content`, `images`, `disk`
         ensures content { IsTrue (D.tells result)
             → IsMending self.entry.bank self.entry.plan (history self.entry.marks) self.entry.doubt
             (D.content result) }
         // With nothing in doubt, the file has the length of the last mark that has one.
+        // Promise: With nothing in doubt, its file has the length that the office counts
         ensures length { IsTrue (D.tells result) → self.entry.doubt ≡ None
             → length (D.content result) ≡ reach self.entry.marks }
         ensures images { IsTrue (D.tells result)

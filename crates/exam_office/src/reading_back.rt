@@ -29,6 +29,11 @@ impl<'a, D: Disk> Office<'a, D> {
     /// history, in order. Its length is that of the last mark that has one, and its limit that of
     /// the plan.
     pub fn holds(&self)
+        // Promise: While nothing is in doubt, the payloads of the journal are those of records of
+        // the history, each of which may follow those before it. Each file that a crash may leave
+        // has them. The office counts them
+        // - of `Office::holds`, `Office::records`
+        // - by `records` (`HoldsRecords`), `images`, `length`, `limit`, `short`
         ensures records { self.now.doubt ≡ None → HoldsRecords self.now }
         // Each file that a crash may leave has these payloads.
         ensures images { self.now.doubt ≡ None → IsTrue (tells_of self.now.journal)
@@ -48,6 +53,12 @@ impl<'a, D: Disk> Office<'a, D> {
 
     /// The cursor of the first record.
     pub fn cursor(&self) -> Cursor
+        // Promise: The records of a journal are read again in their order, from the first one: the
+        // payload of the cursor's number, and none exactly at the end. The cursor moves on by one
+        // record, and stays where none was read. Nothing is written. `Disk` comes only where the
+        // disk's count of faults rose
+        // - of `Office::cursor`, `Office::next_record`
+        // - by `first`, `record`, `fits`, `moved`, `cursor`, `stays`, `cause`, `read`
         ensures first { result.number ≡ 0 }
         ensures cursor { IsCursorOf self.now.journal result }
     {

@@ -84,6 +84,8 @@ impl<'a, D: Disk> Office<'a, D> {
 
     /// The bank.
     pub fn bank(&self) -> &'a Bank
+        // Promise: The bank, the plan and the base are those it was opened with
+        // - of `Office::bank`, `Office::spec`, `Office::base`
         ensures { result.now ≡ self.now.bank }
     {
         self.bank
@@ -104,6 +106,12 @@ impl<'a, D: Disk> Office<'a, D> {
     /// left before. At each moment since, it represents the history of the marks so far, or that
     /// with the one entry in hand.
     pub fn keeps(&self)
+        // Promise: By its type, an office's plan is valid for its bank, its history is a legal run,
+        // and the base is a form of the plan. Its marks are in order, and an entry in doubt is that
+        // of the last mark. There are no more faults among the marks than the disk's count rose
+        // since it was handed in, or that count is at its last value. The count is no lower than it
+        // was then
+        // - by `plan`, `run`, `marks`, `counted`, `grows`, `doubt`, `base`
         ensures plan { IsPlanFor self.now.bank self.now.plan }
         ensures run { LegalRun self.now.bank self.now.plan (history self.now.marks) }
         ensures marks { AreMarks self.now.marks }
@@ -115,6 +123,14 @@ impl<'a, D: Disk> Office<'a, D> {
         // The first record that counts is where it was in the file that was handed in.
         ensures start { IsTrue (tells_of self.now.journal)
             → start_of self.now.journal ≡ first_gate self.now.opened.content }
+        // Promise: By its type, an office knows each moment since its disk was handed in. While it
+        // was opened, each file that a crash may leave represents the history that was found, or is
+        // one that a crash might have left before. From then on it represents the history of the
+        // marks so far, or that with the one entry in hand. So each represents the history of the
+        // office at some moment, or that with the one entry in doubt then
+        // - of `Office::keeps`, `laws::each_moment_stands`
+        // - by `moments` (`AreMoments`, `AreOpeningMoments`, `IsInHand`), `EachMomentStands`
+        //   (`AreOnTheWay`)
         ensures moments { IsTrue (tells_of self.now.journal)
             → AreMoments self.now.bank self.now.plan self.now.opened.accounts self.now.marks
             (accounts_of self.now.journal) }

@@ -67,14 +67,30 @@ impl<'a, D: Disk> Office<'a, D> {
     /// A session for a booking: the one that it has, else a new one.
     pub fn begin(&mut self, alloc: Global, booking: u64) -> Result<Begun, Refusal>
         ensures same { IsSameOffice self.old self.new }
+        // Promise: A writing call first settles an entry in doubt, then tests the history that it
+        // finds, and adds no entry or one of its own. Each refusal is the first that applies there;
+        // then come out of memory, a full journal and the disk, each with its cause
+        // - of `Office::begin`, `Office::begin_without`, `Office::answer`, `Office::commit`,
+        //   `Office::close`
+        // - by `call` (`Calls`), `same`, `frame`
         ensures call { Calls (FindsStart self.old.bank self.old.plan booking) self.old self.new
             (refused_with result) }
         ensures session { IfOk result (λ begun. holder (history self.new.marks) booking
             ≡ Some begun.session) }
         ensures fresh { IfOk result (λ begun. IsFreshly self.old self.new booking begun.fresh) }
+        // Promise: After `Ok` each file that a crash may leave represents the whole history by
+        // records of the second version
+        // - of `Office::begin`, `Office::begin_without`, `Office::answer`, `Office::commit`,
+        //   `Office::close`
         ensures images { OnOk result (IsTrue (tells_of self.old.journal)
             → AllImages (StandsSecond self.old.bank self.old.plan (history self.new.marks))
             (latest (accounts_of self.new.journal))) }
+        // Promise: At every moment of a call each file that a crash may leave represents the
+        // history before or that with the entry in doubt, or either of them with the entry that the
+        // call finds to be added
+        // - of `Office::begin`, `Office::begin_without`, `Office::answer`, `Office::commit`,
+        //   `Office::close`
+        // - by `moments` (`IsLeft`)
         ensures moments { IsTrue (tells_of self.old.journal)
             → AtEachMoment (accounts_of self.old.journal) (accounts_of self.new.journal)
             (IsLeft self.old.bank self.old.plan (FindsStart self.old.bank self.old.plan booking)
@@ -177,6 +193,16 @@ impl<'a, D: Disk> Office<'a, D> {
         requires { IsListFor self.old.bank (has items.now)
             → IsWitness self.old.bank self.old.plan items.now witness }
         ensures same { IsSameOffice self.old self.new }
+        // Promise: A booking with a list of items that its examinee must not get has its session
+        // only if that was started with the same list. Else it is refused with that session
+        // - by `call` (`FindsStartWithout`), `session`
+        // Promise: The next refusals of such a booking are of a list that has no items or one that
+        // the bank has not, and of the number of sessions. The last ones are why no form without
+        // the items is known, and want of memory for the search
+        // - by `call` (`FindsStartWithout`)
+        // Promise: A session that is started with a list has the list, and the form that the search
+        // found
+        // - by `call` (`FindsStartWithout`), `session`, `fresh`
         ensures call { Calls
             (FindsStartWithout self.old.bank self.old.plan booking items.now witness) self.old
             self.new (refused_with result) }

@@ -238,6 +238,13 @@ pub fn take_history<'a, D: Disk>(
         ≡ Some (counted_in (D.content walk.old.disk)) }
     ensures bank { IfOk result (λ found. found.0.bank ≡ bank.now) }
     ensures plan { IfOk result (λ found. found.0.plan ≡ spec.now) }
+    // Promise: A history that is taken from a walk is the one that the file represents, with a new
+    // book of it and the marks of an office opened with it. Another file is refused with the fault
+    // that opening gives. The walk is then at the end of its file, on every disk. The file is not
+    // changed. `Disk` comes only where the disk's count of faults rose
+    // - of `take_history`, `journal_fault`
+    // - by `taken`, `marks`, `last`, `whole`, `stands`, `why`, `cause`, `content`, `accounts`,
+    //   `frame`
     ensures taken { IfOk result
         (λ found. AreTaken bank.now spec.now walk.old.record_version walk.old.at
         (D.tells walk.old.disk) (D.content walk.old.disk) walk.new.given walk.new.at

@@ -20,6 +20,9 @@ use std::alloc::Global;
 pub fn needs_search(bank: &Bank, spec: &Spec, base: &ItemSet, items: &ItemSet) -> bool
     requires plan { IsPlanFor bank.now spec.now }
     requires base { Meets bank.now spec.now (has base.now) }
+    // Promise: Such a form is searched for only where the set is a list for the bank, and the base
+    // is no such form
+    // - by `list`, `base`
     ensures list { IsTrue result → IsListFor bank.now (has items.now) }
     ensures needed { IsTrue result → IsFormWithout bank.now spec.now (has items.now)
         (has base.now) → ⊥ }
@@ -75,6 +78,11 @@ pub fn seek_witness(
 ) -> Result<ItemSet, Refusal>
     requires plan { IsPlanFor bank.now spec.now }
     requires base { Meets bank.now spec.now (has base.now) }
+    // Promise: What a search for a form without the items of a list finds: such a form; that there
+    // is none; or that a tree within the node budget for a base form shows none. The only other
+    // error is lack of memory
+    // - of `seek_witness`, `search_witness`
+    // - by `witness` (`IsWitness`), `why` (`LacksWitness`)
     ensures witness { IsListFor bank.now (has items.now)
         → IsWitness bank.now spec.now items.now result }
     ensures base { IsFormWithout bank.now spec.now (has items.now) (has base.now)

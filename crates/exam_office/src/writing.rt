@@ -46,6 +46,11 @@ impl<'a, D: Disk> Office<'a, D> {
     pub fn settle(&mut self) -> Result<(), Refusal>
         ensures same { IsSameOffice self.old self.new }
         ensures sure { OnOk result (self.new.doubt ≡ None) }
+        // Promise: The entry in doubt is kept exactly where the disk has it, and then it is the
+        // last entry; else it is dropped, and nothing is added. The payloads of the journal are
+        // those before, and with it kept its payload after them. Without room for a mark nothing is
+        // done; `Disk` comes only where the disk's count of faults rose
+        // - by `mended`, `refused`, `resolved`, `images`, `moments`, `left`, `unchanged`
         ensures mended { OnOk result (IsMended self.old.marks self.old.doubt self.new.marks) }
         ensures refused { IfErr result (IsUnmended self.old self.new) }
         ensures images { OnOk result (IsTrue (tells_of self.old.journal)

@@ -190,6 +190,11 @@ pub fn run_alone<F: Files, O: Sink, D: Disk>(
     // If the files report their content: what is printed, and with which status. If the sink
     // reports its content too: that this is written. If the disk reports its content too: what the
     // journal holds, and what a crash may leave of it.
+    // Promise: All of this but what is stated of a server, a follower and a shipper holds of a call
+    // that waits for nobody and takes neither doors nor a holding place. Its words must ask for
+    // none of these
+    // - by `answers`, `journal`, `cause`, `faulty`, `usage`, `files`, `sink`, `failed`, `kept`,
+    //   `unused`, `status`, `files_grow`, `sink_grows`, `files_tell`, `sink_tells`, `disk`
     ensures answers { IsTrue (F.tells tools.files)
         → Ends (map (λ w. string_bytes w) words.now)
         (outside (F.has tools.files) (F.content tools.files) (F.faults tools.files)
@@ -396,12 +401,24 @@ pub fn run<
     // The disk allows that each history goes on. So of a run that never ends: at each moment each
     // file that a crash may leave, and could not leave before, represents a history that goes on
     // from that of the file as it was read before.
+    // Promise: This is of each moment, also of a run that never ends. Each file that a crash may
+    // leave, and could not leave before, may come of what a read gave. The disk is asked to allow
+    // only that a history goes on, by the bank and the plan that the files have
+    // - of `run`, `run_alone`
+    // - by `allows` (`AllowsExams`)
     requires allows { AllowsExams (F.tells world.files) (F.has world.files) (F.content world.files)
         D.may_become }
     // What a server asks of its links, and so what it promises of each byte that a client got at
     // any moment, also of a run that never ends: it is of the responses to the client's messages,
     // in order, each right for marks that a pass of this office's hall has seen, which begin with
     // the history that was found. A link need allow nothing else.
+    // Promise: At each moment of a server, also of one that never ends, what was written to a link
+    // is responses to its messages, in order, and a beginning of the next
+    // - by the condition `fair` (`AreFairDoors`, `IsCallerOf`)
+    // Promise: These responses are right for an office with the bank, the plan and the base form of
+    // the files, over a disk of the identity of the one that was handed in. When its hall was made,
+    // its marks were the history of the file that was found, and its opening
+    // - by the condition `fair` (`IsOpenedBy`, `AreFirstMarks`, `IsCallerOf`)
     requires fair { (office : OpenedWith) (opened : List Mark)
         → IsOpenedBy (map (λ w. string_bytes w) words.now)
         (F.tells world.files) (F.has world.files) (F.content world.files)
@@ -416,6 +433,152 @@ pub fn run<
     // the doors. If the sink reports its content too: that this is written. If the disk reports its
     // content too: what the journal holds, and what a crash may leave of it. Of a door that reports
     // its links: that each was served, and what was written to it.
+    // Promise: Each line of a replay is the reply to one request of the script, in order, and by
+    // the definition of what a request does. Each entry is legal. An item is served by the serving
+    // rule from a form that no exchange of one item betters. Where the line has `proved`, no set of
+    // items is a better form
+    // - by `answers` (`Outcome`, `IsUnderWay`, `AreDone`, `Does`)
+    // Promise: No line is printed for what the journal lacks. Where a replay printed a line, the
+    // file that is left represents the history that the first requests of the script lead to, or
+    // that with the first entries of the next request. Each request whose reply was printed is one
+    // of the first. Each file that a crash may leave at the end represents such a history too
+    // - by `answers` (`IsUnderWay`, `IsFileOf`)
+    // Promise: At each moment since the journal of a replay was opened, each file that a crash may
+    // leave represents a history on the way of the script, by records of the second version. Its
+    // first requests are done, and of the next one none, some or all entries are there
+    // - by `answers` (`IsUnderWay`, `AreMomentsOfReplay`, `IsFileOnTheWay`, `IsReached`)
+    // Promise: While the journal of a replay is opened, also if the disk fails then, each file that
+    // a crash may leave represents the history that was found, or is one that a crash might have
+    // left before
+    // - by `answers` (`AreOpeningMoments`, `IsOpeningFailed`, `KeepsHistory`)
+    // Promise: A run goes on from the history that the file represents
+    // - by `answers` (`IsUnderWay`)
+    // Promise: Each form that a run serves is no worse than the base form and the form before,
+    // where these are forms of the problem. Eligibility is set aside by a spent budget only where
+    // neither the base nor the form before is a form
+    // - by `answers` (`AreGood`)
+    // Promise: A refused request prints its refusal, and the run goes on, unless it is refused for
+    // the plan's limit of sessions
+    // - by `answers` (`AreDone`)
+    // Promise: Status 0 of a replay comes only after each request of the script is done
+    // - by `answers` (`Outcome`)
+    // Promise: Status 6 comes only for a file that represents no history of the bank and the plan,
+    // or is too long, or, unless it is audited or moved, is of the first version and was not moved.
+    // It comes with the first fault of the file, which is left as it was. Over a disk that does not
+    // report its content it may also come where a shipper lost a record
+    // - by `answers` (`IsJournalRefused`)
+    // Promise: Status 13 of a replay comes only at a request that would start one session too many,
+    // or whose next entry, with a record that can be spelled and may follow, would make the journal
+    // longer than its limit. Its line has the two numbers
+    // - by `answers` (`Outcome`, `IsFullAt`, `IsLeftAt`)
+    // Promise: `assemble` prints a form of the plan that no exchange of one item improves, its
+    // objective, and a proof tree. The check of the tree with this form gives Optimal if the line
+    // has `proved`, else Partial, and then the tree spends the base budget
+    // - by `answers` (`FindsForm`)
+    // Promise: `no form T` is printed only where no set of items meets the plan. The check of the
+    // tree T without a form gives NoForm
+    // - by `answers` (`ShowsNoForm`)
+    // Promise: `no base form in N nodes T` is printed only where the plan has no base and N is the
+    // base budget. The check of T without a form gives Partial, and T spends that budget
+    // - by `answers` (`ShowsNoBase`)
+    // Promise: `check` prints what was understood: the bank's counts of items, points, quantities
+    // and stimuli, and the plan's canonical text. The plan is valid for the bank
+    // - by `answers` (`Outcome`)
+    // Promise: Each refusal of a bank, a plan or a script names the first fault of its text
+    // - by `answers` (`Outcome`)
+    // Promise: `serve` opens the journal, and serves the connections of each door on one pass of a
+    // hall over it. The marks of its office at the close have the history of the file that was
+    // found, and the entries that were added; this history is a legal run
+    // - by `answers` (`RunEnds`, `AreServed`, `IsExamined`)
+    // Promise: Each connection that a door gave was served in order and went back to it. Each reply
+    // is right for what the door's pass had seen (`Sees`). What was written is the responses to the
+    // messages, in order, up to the one at which the connection ended
+    // - by `answers` (`AreServed`, `IsWorked`, `IsConnection`)
+    // Promise: Each mark that a server added to its office is the own of a pass on which the
+    // connections of a door were served: the history has no entry that no request brought
+    // - by `answers` (`AreServed`, `IsOwnPlace`)
+    // Promise: A connection that ends for lack of memory is kept: then the status of the server is
+    // not 0
+    // - by `answers` (`AreServed`, `IsConnection`, `end_of`, `IsLast`)
+    // Promise: Whatever the status of a server, the file that is left, and each that a crash may
+    // leave, represents the history of the marks at the close, or that with the one entry in doubt
+    // - by `answers`, `journal` (`IsExamined`, `RunLeaves`)
+    // Promise: At each moment since the journal of a server was opened, each file that a crash may
+    // leave represents the history of the office's marks so far, or that with the one entry in
+    // hand. That entry is written, or the disk put it in doubt. The moments and the marks go side
+    // by side: one entry after another is in hand
+    // - by `answers`, `journal` (`IsExamined`, `AreMoments`, `IsInHand`)
+    // Promise: While the journal of a server is opened, also where it could not be, each file that
+    // a crash may leave represents the history that was found, or is one that a crash might have
+    // left before
+    // - by `answers`, `journal` (`AreOpeningMoments`, `IsOpeningFailed`, `IsUntouched`)
+    // Promise: Status 0 of a server comes only after each door that reports its links has none
+    // left, and its line has the numbers of the history at the close. Status 14 comes only where a
+    // door's count of faults rose, and status 9, also at the end, only where the disk's did
+    // - by `answers` (`RunEnds`, `AreServed`, `IsServedBy`), `door`, `failed`
+    // Promise: What a server prints, what it leaves of the journal and what its doors gave are of
+    // one office: its marks at the opening and at the close
+    // - by `answers`, `journal` (`RunEnds`, `RunLeaves`, `WorkSeen`)
+    // Promise: `audit` prints the numbers of the history that the file represents, and its exposure
+    // counts. For a plan of more than one band it prints those of each band after them, for a plan
+    // of one band nothing more. Each record is judged with its tree. The file is as it was, and so
+    // is each file that a crash may leave, at each moment
+    // - by `answers` (`Outcome`, `IsAuditOf`, `IsAudit`, `audit_text`, `IsUntouched`)
+    // Promise: `migrate` prints how many records it wrote and the length of the journal, which is
+    // then within the plan's limit. The journal represents, by records of the second version, the
+    // history that it represented. One of the first version is exactly the moved one, any other is
+    // as it was. With nothing suspect before, a crash leaves nothing but that file
+    // - by `answers` (`Outcome`, `IsMigrationOf`, `IsMigrationDone`)
+    // Promise: Whatever the status of a migration, a journal that represented a history represents
+    // it afterwards, or is a file that a crash might have left before. So it is of each file that a
+    // crash may leave, at each moment. Only a journal that represents a history by records of the
+    // first version is changed. One that is refused, or would be too long, is as it was
+    // - by `answers`, `journal` (`KeepsHistory`, `IsMigrationCutOff`, `IsReadingRefused`,
+    //   `IsMigrationFull`)
+    // Promise: A replay, a server, a follower and a shipper refuse a journal of the first version
+    // that was not moved, and leave it as it was
+    // - by `answers` (`IsJournalRefused`, `IsOpenAnswer`, `IsUnderWay`, `IsExamined`)
+    // Promise: At status 0 of `follow` each link that the first door gave was followed to its end
+    // and went back to it, and the door gave no other, as a missing door does. The file stands for
+    // the history H that has the records taken. The count and the numbers that are printed are
+    // those of H
+    // - by `answers` (`FollowEnds`, `AreFollowed`, `IsFollowedBy`, `IsLastOfFollow`)
+    // Promise: The records of a follower go from those of the file to those of H by the offers of
+    // its links, in their order. Each that was taken may follow those before it by the rules of
+    // examinations
+    // - by `answers` (`AreFollowed`, `IsFollowing`, `AreSpelled`)
+    // Promise: At status 0 of `ship` its one link ended with the follower having all C records, C
+    // is printed, and the file stands for the same history as at the start
+    // - by `answers` (`ShipEnds`, `AreShipped`, `IsShippedBy`, `IsLastOfShip`)
+    // Promise: The file that a follower or a shipper leaves of a journal that was opened, and each
+    // that a crash may leave, represents the history of the marks at the close, or that with the
+    // one record in doubt. So it is whatever the status
+    // - by `answers`, `journal` (`LinkLeaves`, `IsExamined`)
+    // Promise: So it is at each moment since that journal was opened, with the marks so far. While
+    // it is opened, each such file represents the history that was found, or is one that a crash
+    // might have left before
+    // - by `answers`, `journal` (`AreMoments`, `AreOpeningMoments`)
+    // Promise: `drill` prints the numbers of the history to which the requests of the made script
+    // lead from the empty one, by the bank and the plan of the made texts. What it prints depends
+    // on no file, and it leaves the journal alone. It ends with 0, or with 10
+    // - of `run`, `laws::drill_is_complete`
+    // - by `answers` (`Outcome`, `IsSummaryOfDrill`), `unused`, `DrillIsComplete`
+    // Promise: `series` prints forms that each meet the plan, with no item in two of them, in
+    // ascending order of their lowest item, and their least weighted information as the value
+    // - by `answers` (`IsSeriesOf`, `AnswersSeries`)
+    // Promise: Where a line of `series` has `proved`, no such forms have a greater value, and the
+    // check of the tree with these forms gives Optimal. Else it gives Partial, and the tree spends
+    // the base budget. After `at most U` no such forms have a value above U
+    // - by `answers` (`AnswersSeries`, `FindsSeries`)
+    // Promise: `no series T` is printed only where no forms of that number meet the plan without
+    // common items. `no series in N nodes T` is printed only where the tree T without forms gives
+    // Partial and spends the base budget N. `series: weights` is printed exactly where the weights
+    // are another number than the grid's points, or all are 0
+    // - by `answers` (`AnswersSeries`, `ShowsNoSeries`, `ShowsNoneFound`, `AreWeightsFor`)
+    // Promise: A bank, plan or script is read or refused only if its file is there. For a name that
+    // no file has, only `files failed` with a counted fault or `no memory` is printed, or a prefix
+    // of one where the output failed
+    // - by `answers` (`Reads`, `ReadsAll`, `Outcome`)
     ensures answers { IsTrue (F.tells world.files)
         → RunEnds (λ opened closed end. AreServed (option_map (λ t. t.items) world.token)
         L.tells L.coming L.returned L.is_out L.faults L.identity L.Link.tells L.Link.left L.Link.written L.Link.faults L.Link.identity
@@ -442,6 +605,19 @@ pub fn run<
         (disk_seen D.tells D.content D.accounts D.faults world.disk result.disk))
         (O.tells world.out) (O.written world.out) (O.written result.out) result.status) }
     // What is left of the journal, whatever the status.
+    // Promise: Whatever the status of a replay, one of the next three rows holds of its journal
+    // - by `journal` (`LeavesJournal`)
+    // Promise: First: the file is left as it was found, and a crash leaves no file that it might
+    // not have left before
+    // - by `journal` (`IsUntouched`)
+    // Promise: Second: the file that is left, and each that a crash may leave, represents the
+    // history that the first requests of the script lead to, or that with the first entries of the
+    // next
+    // - by `journal` (`IsUnderWay`)
+    // Promise: Third: the disk failed while the journal was opened. Then each of these files
+    // represents the history that was found, if one was, or is a file that a crash might have left
+    // before
+    // - by `journal` (`IsOpeningFailed`, `KeepsHistory`)
     ensures journal { IsTrue (F.tells world.files)
         → RunLeaves (λ opened closed end. AreServed (option_map (λ t. t.items) world.token)
         L.tells L.coming L.returned L.is_out L.faults L.identity L.Link.tells L.Link.left L.Link.written L.Link.faults L.Link.identity
@@ -457,6 +633,17 @@ pub fn run<
     // The halt, if the run ended by one, and what it shows: of a journal that is refused, the rule
     // that its first wrong record breaks, with the values. Without one no text was refused, and
     // status 6 comes of a follower or a shipper alone.
+    // Promise: A halt that a run hands back is of its status, or the output failed (status 8). A
+    // halt of a refused journal is the first fault of the file by the bank and the plan that were
+    // read. Of one wrong record it has the place and the rule that the record breaks. Of a tree
+    // that the checker refuses it has the place alone. Without a halt no text was refused. Status 6
+    // without a halt comes only of `follow` and `ship`
+    // - of `run`, `run_alone`
+    // - by `cause` (`EndsAs`, `Shows`, `IsRefused`, `IsOpenAnswer`, `IsReadAnswer`, `IsIllegal`)
+    // Promise: A halt without a form, or without a series, has the tree that shows it for the bank
+    // and the plan that were read, or that spends the base budget
+    // - of `run`, `run_alone`
+    // - by `cause` (`Shows`, `ShowsNoForm`, `ShowsNoBase`, `ShowsNoSeries`, `ShowsNoneFound`)
     ensures cause { IsTrue (F.tells world.files)
         → EndsAs (map (λ w. string_bytes w) words.now)
         (outside (F.has world.files) (F.content world.files) (F.faults world.files)
@@ -464,25 +651,48 @@ pub fn run<
         (disk_seen D.tells D.content D.accounts D.faults world.disk result.disk))
         result.halt result.status }
     // The causes, whether they report their content or not. Out of memory is free.
+    // Promise: Status 2 comes exactly where the words are not in the table of commands, or 8 where
+    // its line cannot be written, or 10
+    // - by `faulty`, `usage`
     ensures faulty { command_of (map (λ w. string_bytes w) words.now) ≡ None
         → (result.status ≡ 2) ⊎ ((result.status ≡ 8) ⊎ (result.status ≡ 10)) }
     ensures usage { result.status ≡ 2 → command_of (map (λ w. string_bytes w) words.now) ≡ None }
+    // Promise: Statuses 7, 8 and 9 come only where the count of faults of the files, the output or
+    // the disk rose (or is at its last value). At status 8 what was written is a proper prefix of
+    // what one of the other outcomes prints
+    // - by `files`, `sink`, `failed`, `answers` (`PrintsPart`)
     ensures files { result.status ≡ 7 → Rose (F.faults world.files) (F.faults result.files) }
     ensures sink { result.status ≡ 8 → Rose (O.faults world.out) (O.faults result.out) }
     ensures failed { result.status ≡ 9 → Rose (D.faults world.disk) (D.faults result.disk) }
     ensures door { result.status ≡ 14
         → HasFailedDoor L.faults world.doors.items result.doors.items }
+    // Promise: Status 19 comes only where the count of faults of the last link of the first door
+    // rose. Statuses 19 to 22 come only of `follow` and `ship`: 20 where the other side sent what
+    // no peer may send, 21 where the offered record may not follow, 22 where a shipper had no link
+    // - by `link` (`HasFailedFirst`), `unlinked`, `answers` (`IsLastOfLink`)
     ensures link { result.status ≡ 19 → HasFailedFirst L.tells L.coming L.returned L.is_out
         L.faults L.identity L.Link.faults world.doors.items result.doors.items }
+    // Promise: The disk is handed back as it was, unless the command is a replay, a server, an
+    // audit, a migration, a follower or a shipper. So it is at each status of a run that ends
+    // before the journal is opened: 2, 3, 4, 5, 7, 11 and 12
+    // - by `kept`, `unused`
     ensures kept { IsStatusBefore result.status → result.disk ≡ world.disk }
     ensures unused { (IsOfJournal (command_of (map (λ w. string_bytes w) words.now)) → ⊥)
         → result.disk ≡ world.disk }
+    // Promise: Only a server uses all doors, and a follower and a shipper the first one. They come
+    // back in their order, each the same object with no link out, and their counts of faults never
+    // fall
+    // - by `idle`, `doors` (`AreLent`)
     ensures idle { (IsOfDoors (command_of (map (λ w. string_bytes w) words.now)) → ⊥)
         → result.doors ≡ world.doors }
+    // Promise: No other status comes than those of [the table](COMMANDS.md#statuses)
     ensures status { IsStatusOfAny result.status }
     ensures unlinked { (IsOfLinked (command_of (map (λ w. string_bytes w) words.now)) → ⊥)
         → IsStatusOfRun result.status }
 
+    // Promise: The counts of faults never fall, and files, output and disk report their content
+    // afterwards if they did before
+    // - by `files_grow`, `sink_grows`, `files_tell`, `sink_tells`, `disk`
     ensures files_grow { F.faults world.files ≤ F.faults result.files }
     ensures sink_grows { O.faults world.out ≤ O.faults result.out }
     ensures files_tell { F.tells result.files ≡ F.tells world.files }

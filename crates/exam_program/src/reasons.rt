@@ -216,6 +216,8 @@ fn fault_words(alloc: Global, fault: OpenFault) -> Result<String, AllocError>
 /// The place of the record for which a journal is refused, if it is one: that of its gate in the
 /// file, in bytes.
 pub fn place_of(halt: &Halt) -> Option<u64>
+    // Promise: The place of the record for which a journal is refused is that of the halt
+    // - by the clause (`place_of`)
     ensures { result ≡ place_of halt.now }
 {
     match halt {
@@ -231,6 +233,9 @@ pub fn place_of(halt: &Halt) -> Option<u64>
 /// that explains it. Nothing, if the line on standard output has all.
 #[tactic(auto, unfolding(crate::specs::Reasons::halt_words))]
 pub fn halt_words(alloc: Global, halt: &Halt) -> Result<Option<String>, AllocError>
+    // Promise: The words for standard error are a function of the halt. Some faults share their
+    // words, and of a tree that is refused they have neither the rule nor a value
+    // - by the clause (`halt_words`, `fault_words`, `illegal_words`)
     ensures { IfOk result
         (λ words. option_map (λ w. string_bytes w) words ≡ halt_words halt.now) }
 {

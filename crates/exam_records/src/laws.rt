@@ -15,6 +15,10 @@ ghost use Rattle.exam_records.specs.Cuts.{IsCutOff};
 
 /// What is written is read again, as far as that version of the journal keeps it.
 pub fn written_is_read()
+    // Promise: Written and read again is what the first version keeps of the record; what is read
+    // was encoded so; two records with the same encoding have the same kept
+    // - of `laws::written_is_read`, `laws::one_spelling`, `laws::no_two_records`
+    // - by the clause
     ensures read { (r : Record) → IsRecord r → record_of (payload_of r) ≡ Ok r }
     ensures old_read { (first : ℕ) (r : Record) → first < 8 → IsRecord r
         → old_record_of (old_payload_of first r) ≡ Ok (old_record first r) }
@@ -41,6 +45,9 @@ pub fn no_two_records()
 
 /// What the first version keeps of a record is a record, and has the same spelling.
 pub fn kept_is_spelled()
+    // Promise: What the first version keeps of a record is a record of its own, with the same
+    // encoding
+    // - by `is_old`, `spelling`
     ensures is_old { (first : ℕ) (r : Record) → first < 8 → IsRecord r
         → IsOldRecord (old_record first r) }
     ensures spelling { (first : ℕ) (r : Record)
@@ -49,6 +56,10 @@ pub fn kept_is_spelled()
 
 /// Bytes after a record are reported as Extra, with the place where the record ends.
 pub fn more_is_told()
+    // Promise: Bytes after a record are a fault, with the place where it ends. A payload that is
+    // cut off anywhere is Short before the tree, and has the tree's Short or Unfinished within it
+    // - of `laws::more_is_told`, `laws::cut_off_is_told`
+    // - by the clause
     ensures more { (r : Record) (rest : List ℕ) → IsRecord r → 0 < length rest
         → record_of (payload_of r ++ rest) ≡ Err (Extra (length (payload_of r))) }
     ensures old_more { (first : ℕ) (r : Record) (rest : List ℕ) → first < 8 → IsRecord r
@@ -70,6 +81,9 @@ pub fn cut_off_is_told()
 /// The first byte shows which versions may read a payload: kinds 3 to 5 are the same in both, 6, 7
 /// and 9 are of the second alone, and 1 and 2 of the first alone. No kind is 8.
 pub fn kind_shows_version()
+    // Promise: The first byte of a payload shows which versions may read it; the records of three
+    // kinds are the same in both
+    // - by `none`, `old_none`, `both`
     ensures none { (kind : ℕ) (rest : List ℕ) → (kind < 3) ⊎ ((kind ≡ 8) ⊎ (9 < kind))
         → record_of (kind ∷ rest) ≡ Err (Kind 0) }
     ensures old_none { (kind : ℕ) (rest : List ℕ) → (kind < 1) ⊎ (5 < kind)
@@ -80,18 +94,25 @@ pub fn kind_shows_version()
 
 /// The second version of a record is longer than the first by the bytes that its entry has more.
 pub fn longer_by()
+    // Promise: A record is longer in the second version by 64 bytes for each band but one and one
+    // byte at a start, by three at a setting aside, and else not at all. A start with a list has
+    // 128 bytes more
     ensures { (first : ℕ) (r : Record) → HasBands r.entry
         → length (payload_of r) ≡ length (old_payload_of first r) + more_bytes r.entry }
 {}
 
 /// The single byte 08, by which a file is moved from one version to the other, is no record.
 pub fn mark_is_no_record()
+    // Promise: The mark that moves a journal is no record of either version
+    // - by `mark`, `old_mark`
     ensures mark { (r : Record) → payload_of r ≢ 8 ∷ [] }
     ensures old_mark { (first : ℕ) (r : Record) → old_payload_of first r ≢ 8 ∷ [] }
 {}
 
 /// A set of items is 64 bytes, and item i is bit i mod 8 (bit 0 the least) of byte i div 8.
 pub fn a_bit_for_each_item()
+    // Promise: A set of items is 64 bytes, and item i is bit i mod 8 of byte i div 8
+    // - by `length`, `bits`
     ensures length { (X : Set) → length (set_bytes X) ≡ 64 }
     ensures bits { (X : Set) (i : ℕ) → i < 512 → bit_at (slice_index (set_bytes X) (i / 8)) (i % 8)
         ≡ (if X i then 1 else 0) }

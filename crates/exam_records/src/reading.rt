@@ -345,6 +345,10 @@ fn record_of(alloc: Global, payload: &[u8]) -> Result<Record, RecordFault>
 /// fault in the order of reading, or out of memory.
 pub fn decode(alloc: Global, payload: &[u8]) -> Result<Record, RecordFault>
     // What is read is a record, and the payload its one spelling.
+    // Promise: A payload of the second version that is read is the one encoding of the record that
+    // is given, a start with a set for each band and its list, and a setting aside with its step
+    // and band. What is encoded is read, and each fault comes where reading meets it
+    // - by `found`, `only`, `exact`
     ensures found { IfOk result (λ rec. IsRecord rec × (payload.now ≡ payload_of rec)) }
     // What is spelled so is read, unless memory runs out.
     ensures only { (r : Record) → IsRecord r → payload.now ≡ payload_of r
@@ -434,11 +438,17 @@ fn old_record_of(alloc: Global, payload: &[u8]) -> Result<Record, RecordFault>
 /// of reading, or out of memory.
 pub fn decode_old(alloc: Global, payload: &[u8]) -> Result<Record, RecordFault>
     // What is read is a record of the first version, and the payload its one spelling.
+    // Promise: A payload of the first version that is read is the one encoding of the record that
+    // is given. The record has an entry. It has a proof tree, with the number of its nodes, exactly
+    // where an item was served or eligibility was set aside
     ensures found { IfOk result (λ rec. IsOldRecord rec × (payload.now ≡ old_payload_of 0 rec)) }
     // What is spelled so is read, unless memory runs out.
+    // Promise: What is encoded is read, unless memory runs out
     ensures only { (r : Record) → IsOldRecord r → payload.now ≡ old_payload_of 0 r
         → Gives Memory (λ x. x) result (Ok r) }
     // Which fault it is, and where.
+    // Promise: Each fault of a payload comes exactly where reading from left to right meets it,
+    // with the place of the field, or the tree's own fault
     ensures exact { Gives Memory (λ x. x) result (old_record_of payload.now) }
 {
     old_record_of(alloc, payload)

@@ -33,6 +33,9 @@ fn are_list_sets(without: &Option<Without>)
 /// What every entry is by its type, for a caller's proof: its numbers fit the bytes that they are
 /// written in, and its sets are of items. It does nothing.
 pub fn is_in_range(entry: &Entry)
+    // Promise: Each entry has numbers that fit their bytes, and sets of items, by its type
+    // - of `is_in_range`, `are_sets`
+    // - by the clause (`IsInRange`), `eight`, `each`
     ensures { IsInRange entry.now }
 {
     match entry {

@@ -262,6 +262,10 @@ pub fn push_record(
 ) -> Result<(), Memory>
     requires tree { GoesWith entry.now (option_copied tree) }
     requires bands { HasBands entry.now }
+    // Promise: The bytes written in the second version are the record's one encoding, of a bounded
+    // length
+    // - of `push_record`, `encode`, `encode_parts`
+    // - by `spelling`, `is_record`, `some`, `few`
     ensures spelling { OnOk result (out.new.items ≡ out.old.items
         ++ payload_of (record { entry = entry.now; tree = option_copied tree.entry })) }
     // The entry and its tree are a record.
@@ -323,6 +327,11 @@ pub fn push_old_record(
 ) -> Result<(), Memory>
     requires first { first < 8 }
     requires tree { GoesWith entry.now (option_copied tree) }
+    // Promise: The bytes written are the record's one encoding in the first version, of a bounded
+    // length; a tree that is only lent is encoded the same. Of a start they have the set of one
+    // band, and of a setting aside neither step nor band
+    // - of `push_old_record`, `encode_old`, `encode_old_parts`
+    // - by `spelling`, `is_record`, `some`, `few`
     ensures spelling { OnOk result (out.new.items ≡ out.old.items ++ old_payload_of first
         (record { entry = entry.now; tree = option_copied tree.entry })) }
     // The entry and its tree are a record, if the entry has at most eight bands.
@@ -381,6 +390,9 @@ pub fn encode_old(alloc: Global, first: u8, rec: &Record) -> Result<Vec<u8>, Mem
 pub fn growth(entry: &Entry) -> u64
     requires bands { HasBands entry.now }
     requires unlisted { HasNoList entry.now }
+    // Promise: By how much it is longer is known from its entry, if that has no list, and nothing
+    // is written for it; so its length in the second version is known from its payload in the first
+    // - by `more`, `longer`, `few`
     ensures more { result ≡ more_bytes entry.now }
     ensures longer { (first : ℕ) (tree : Option ProofTree)
         → length (payload_of (record { entry = entry.now; tree = tree }))

@@ -9,6 +9,9 @@ use exam_edge::Door;
 /// Where the work ended since each door gave no more links, and for nothing else, no connection
 /// ended for lack of memory.
 pub fn no_connection_starved<L: Door>()
+    // Promise: At `Done` no connection of any door ended for lack of memory: each ended since its
+    // client closed it or asked for that, at a message that is none, or by a fault of the link
+    // - by the clause (`AreFed`, `IsFedConnection`)
     ensures { (token : Option (List ℕ)) (opened closed : List NotedMark) (doors back : List L)
         → AreServed token L.tells L.coming L.returned L.is_out L.faults L.identity
         L.Link.tells L.Link.left L.Link.written L.Link.faults L.Link.identity

@@ -188,27 +188,59 @@ where
     // So of each byte that a client got at any moment, also of a run that never ends: it is of the
     // responses to its messages, in order, each right for marks that a pass of this office's hall
     // has seen.
+    // Promise: At each moment, also of a server that never ends, what was written to a link is
+    // responses to its messages, in order, and a beginning of the next. Each is right for what a
+    // pass of a hall of this office had seen, which begins with the office's marks, each noted with
+    // what the office was opened with; the hall was made at these marks
+    // - by the condition `fair` (`AreFairDoors`, `IsCallerOf`)
     requires fair { AreFairDoors (option_copied token)
         L.Link.tells L.Link.left L.Link.written L.Link.allows L.tells L.coming
         (IsCallerOf (opened_with office) office.marks) doors.items }
     // What no call changes: the bank, the plan and the base form, which disk it is, and how that
     // was handed in.
+    // Promise: The office that comes back has the bank, the plan, the base form and the disk of the
+    // one that was handed in, and knows the same of how that disk was handed to it
     ensures same { opened_with result.office ≡ opened_with office.entry }
     // The office's marks at the close begin with those that it had at first.
+    // Promise: The office comes back with one list of marks, which begins with the marks that it
+    // had. What a pass saw is a beginning of that list, and no mark is the own of two passes
+    // - by `begins`, `result` (`AreServed`)
     ensures begins { StartsWith result.office.marks office.entry.marks }
+    // Promise: There is one station for each door, in the order of the doors. Each link that its
+    // door gave was served, in order, on the station's one pass, and then went back to the door. If
+    // the link reports its bytes, what was written is the responses to its messages, by what the
+    // pass had seen
+    // - by `result` (`AreServed`, `IsWorked`, `IsConnection`)
+    // Promise: The requests are served by the bank, the plan and the base form of the office that
+    // was handed in
+    // - by `result` (`AreServed`, `HasOpening`)
+    // Promise: Each mark that was added is the own of a pass on which the links of a door were
+    // served. So no entry is one that no request brought
+    // - by `result` (`AreServed`, `IsOwnPlace`)
+    // Promise: It ends with `Starved`, and not with `Done`, if a connection ended for lack of
+    // memory and no door failed
+    // - by `result` (`AreServed`, `IsConnection`, `end_of`)
     ensures result { IsResult (option_copied token.entry)
         L.tells L.coming L.returned L.is_out L.faults L.identity
         L.Link.tells L.Link.left L.Link.written L.Link.faults L.Link.identity
         office.entry doors.items result.office result.doors.items result.end }
     // However it ended: each door is the same object, with no fewer faults, and no link of it is
     // out.
+    // Promise: However it ends, each door comes back: it is the same object, its count of faults is
+    // no lower, and no link of it is out
+    // - by `lent` (`AreLent`)
     ensures lent { AreLent L.tells L.identity L.faults L.is_out doors.items result.doors.items }
     // Out of memory, nothing was done.
+    // Promise: Out of memory, before any link was accepted, the office and the doors are as they
+    // were
     ensures unused { result.end ≡ end.Memory
         → (result.office ≡ office.entry) × (result.doors ≡ doors) }
     // The causes of the end.
     ensures done { (result.end ≡ end.Done) ⊎ (result.end ≡ end.Starved)
         → All (HasNone L.tells L.coming) result.doors.items }
+    // Promise: It ends with `DoorFailed` only where a door's count of faults rose. At `Done` and at
+    // `Starved` each door that reports its links has none left
+    // - by `failed` (`HasFailedDoor`), `done` (`HasNone`)
     ensures failed { result.end ≡ end.DoorFailed
         → HasFailedDoor L.faults doors.items result.doors.items }
 {

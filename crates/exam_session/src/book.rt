@@ -111,6 +111,10 @@ impl<'a> Book<'a> {
         requires { IsPlanFor bank.now spec.now }
         ensures bank { IfOk result (λ book. book.bank ≡ bank.now) }
         ensures plan { IfOk result (λ book. book.plan ≡ spec.now) }
+        // Promise: A legal entry is appended and nothing else changes; only `new` and `reserve`
+        // take memory; `reserve` makes room for one entry, and cannot fail where there is room
+        // - of `Book::new`, `Book::reserve`, `Book::apply`, `Book::room`
+        // - by `entries`, `bank`, `plan`, `room`, `memory`, `needed`
         ensures entries { IfOk result (λ book. book.entries ≡ []) }
         ensures room { IfOk result (λ book. book.room ≡ 0) }
     {
@@ -153,6 +157,9 @@ impl<'a> Book<'a> {
     pub fn entries(&self) -> u64
         ensures number { result ≡ length self.now.entries }
         // the entries are a legal run, whatever was done with the book
+        // Promise: A book always is a legal run of its entries, for a plan that is valid for its
+        // bank: its type has no other value
+        // - by `examination` (`IsExamination`)
         ensures examination { IsExamination self.now }
     {
         self.entries.count()
@@ -167,6 +174,10 @@ impl<'a> Book<'a> {
 
     /// The number of sessions.
     pub fn sessions(&self) -> u32
+        // Promise: A book's answers are those of its entries: the number of sessions, each one's
+        // place and seat, the session of a booking, the exposure counts of each item
+        // - of `Book::sessions`, `Book::place`, `Book::seat`, `Book::booked`, `Book::counters`,
+        //   `Book::entries`
         ensures number { result ≡ sessions self.now.entries }
         ensures few { result ≤ self.now.plan.sessions }
     {
@@ -189,6 +200,7 @@ impl<'a> Book<'a> {
     pub fn place(&self, session: u32) -> Option<Place>
         ensures place { result ≡ place self.now.plan self.now.entries session }
         // the item that waits for its answer is one of the bank
+        // Promise: The item of a place that waits for its answer is an item of the bank
         ensures item { (step item : ℕ) (proved : Bool) → result ≡ Some (Waiting step item proved)
             → item < size self.now.bank }
     {
@@ -201,6 +213,10 @@ impl<'a> Book<'a> {
     /// Whether eligibility is set aside for a session in the band of its estimate now; not where
     /// there is no such session.
     pub fn is_aside(&self, session: u32) -> bool
+        // Promise: Whether eligibility is set aside in the band of a session's estimate, and the
+        // band in which each session begins, can be read
+        // - of `Book::is_aside`, `Book::first_band`
+        // - by the clause (`is_aside_now`), `band`, `of_plan`
         ensures { result
             ≡ is_aside_now self.now.bank self.now.plan self.now.entries session }
     {
@@ -221,6 +237,10 @@ impl<'a> Book<'a> {
     /// sessions that visited it.
     pub fn band_counters(&self, band: u8) -> &Counters
         requires { band < bands_of self.now.plan }
+        // Promise: What is counted in a band is counted by the definitions: the sessions that
+        // visited it, those in which an item was shown at a step whose estimate is there, and those
+        // in which it could be had there
+        // - by the clause (`AreBandCounts`)
         ensures { AreBandCounts self.now.bank self.now.plan self.now.entries band result.now }
     {
         &self.band_counters[band as usize]
@@ -251,6 +271,9 @@ impl<'a> Book<'a> {
 
     /// The items that are eligible for the next session in each band: its draw there.
     pub fn drawn(&self) -> Bands
+        // Promise: The eligible set of the next session in each band is the draw at the counts of
+        // the book's own history
+        // - by `drawn` (`AreDrawn`), `items`
         ensures drawn { AreDrawn self.now.bank self.now.plan self.now.entries
             (sessions self.now.entries) result }
         ensures items { (band : ℕ) → HoldsItems self.now.bank (items_in result.sets band) }
@@ -260,6 +283,10 @@ impl<'a> Book<'a> {
 
     /// The response that is recorded for a step of a session; none where there is none.
     pub fn recorded(&self, session: u32, step: u16) -> Option<u8>
+        // Promise: The recorded response of a step, the summary, the bank and the plan are those of
+        // the entries
+        // - of `Book::recorded`, `Book::summary`, `Book::bank`, `Book::spec`
+        // - by the clause (`recorded`, `summary`)
         ensures { result ≡ recorded self.now.entries session step }
     {
         match self.seats.get(session as usize) {
@@ -296,6 +323,9 @@ impl<'a> Book<'a> {
 
     /// The problem of a session that waits for an item; none where it doesn't.
     pub fn problem(&self, session: u32) -> Option<Problem<'a>>
+        // Promise: A session has a problem exactly where it waits for an item: that of its seat,
+        // well made; each form of it has an item that is not given
+        // - by `problem`, `well_made`, `free`, `none`
         ensures problem { IfSome result
             (λ p. IsProblemOf self.now.bank self.now.plan self.now.entries session p.step
             (problem_of p)) }

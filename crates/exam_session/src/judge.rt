@@ -222,6 +222,8 @@ impl<'a> Book<'a> {
     /// and gives otherwise the first reason, in the order of `Illegal`'s variants for the record's
     /// kind. Takes no memory.
     pub fn judge_parts(&self, entry: &Entry, tree: Option<&Tree>) -> Result<(), Illegal>
+        // Promise: An entry with a lent tree is judged the same way
+        // - by `may`, `reason`
         ensures may { IfOk result
             (λ _. MayFollow self.now.bank self.now.plan self.now.entries entry.now
             (option_copied tree.entry)) }
@@ -261,7 +263,12 @@ impl<'a> Book<'a> {
     }
 
     /// Tests a record, as its entry and its tree.
+    // Promise: Judging has no condition, takes no memory and changes nothing
+    // - by its signature
     pub fn judge(&self, rec: &Record) -> Result<(), Illegal>
+        // Promise: A record may follow exactly if `judge` answers Ok, its proof tree included. Else
+        // the first reason is given with its value, and a record that has a reason may not follow
+        // - by `may` (`MayFollow`), `reason` (`IsIllegal`)
         ensures may { IfOk result
             (λ _. MayFollow self.now.bank self.now.plan self.now.entries rec.now.entry
             rec.now.tree) }

@@ -82,6 +82,10 @@ impl<'a> Book<'a> {
     /// band of its session, if the session waits for an item. Every other record stays as it is,
     /// and none gets a list. Takes no memory.
     pub fn lift(&self, old: Record) -> Record
+        // Promise: What the first version leaves out of a record is added from the book: the draws
+        // of the other bands, the step, and the band of the estimate. The record keeps its tree and
+        // its bytes, gets no list, and takes no memory
+        // - by `entry` (`IsLifted`), `tree`, `spelling`, `is_record`, `unlisted`
         ensures entry { IsLifted self.now.bank self.now.plan self.now.entries old.entry
             result.entry }
         ensures tree { result.tree ≡ old.tree }

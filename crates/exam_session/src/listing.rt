@@ -15,6 +15,10 @@ use history_model::{Illegal, Without};
 
 /// Whether the set is a list for the bank: it has items, all of the bank.
 pub fn is_list(bank: &Bank, items: &ItemSet) -> bool
+    // Promise: Whether a set is a list for the bank can be asked, and the whole problem without its
+    // items can be had, well made
+    // - of `is_list`, `whole_without`
+    // - by the clause (`IsListFor`), `whole` (`IsWholeWithout`), `well_made`
     ensures { IsTrue result ↔ IsListFor bank.now (has items.now) }
 {
     match items.first() {

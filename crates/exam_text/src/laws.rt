@@ -44,6 +44,9 @@ pub fn a_text_is_read_as_its_lines()
 
 /// The first fault of tests in a stated order is the fault of the lowest number that has one.
 pub fn the_first_fault_is_the_lowest<F>()
+    // Promise: The first fault of tests in a given order is that of the lowest number that has one;
+    // there is none exactly where each test passes
+    // - by `lowest`, `first`, `none`, `all`
     ensures lowest { (n : ℕ) (f : ℕ → Option F) (fault : F) → first_below n f ≡ Some fault
         → IsFirst n f fault }
     ensures first { (n : ℕ) (f : ℕ → Option F) (fault : F) → IsFirst n f fault

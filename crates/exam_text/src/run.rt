@@ -48,6 +48,9 @@ fn run_between(low: Option<u16>, high: Option<u16>) -> Option<Run>
 /// second greater.
 #[tactic(auto, unfolding(crate::specs::Runs::run_of))]
 pub fn run_of(text: &[u8]) -> Option<Run>
+    // Promise: A run of items is read exactly where it is what is printed of one
+    // - of `run_of`, `laws::a_run_is_what_is_printed`
+    // - by `value`, `run`, `read`, `printed`
     ensures value { result ≡ run_of text.now }
     ensures run { IfSome result IsRun }
 {
@@ -68,6 +71,8 @@ pub fn run_of(text: &[u8]) -> Option<Run>
 pub fn next_run(words: &[&[u8]], from: u16, i: usize) -> Option<Run>
     requires within { i < length words.now }
     requires next { from ≡ behind (map (λ w. w.now) words.now) i }
+    // Promise: The next run of a set begins after the run before it, and no run overlaps another
+    // - by `fits`, `value`, `run`
     ensures fits { is_some result ≡ fits (map (λ w. w.now) words.now) i }
     ensures value { IfSome result (λ r. run_of (word (map (λ w. w.now) words.now) i) ≡ Some r) }
     ensures run { IfSome result IsRun }

@@ -14,6 +14,10 @@ fn parts_at(alloc: Global, c: u8, text: &[u8]) -> Result<Vec<&[u8]>, AllocError>
 
 /// The words of a line, parted by one space each. A space too many shows as an empty word.
 pub fn words_of(alloc: Global, line: &[u8]) -> Result<Vec<&[u8]>, AllocError>
+    // Promise: Words with one space between them, and lines ended by line feeds, are read as those
+    // words and lines
+    // - of `words_of`, `lines_of`, `laws::a_line_is_read_as_its_words`,
+    //   `laws::a_text_is_read_as_its_lines`
     ensures { IfOk result (λ v. map (λ w. w.now) v.items ≡ words_of line.now) }
 {
     parts_at(alloc, b' ', line)
@@ -35,6 +39,8 @@ pub fn lines_of(alloc: Global, text: &[u8]) -> Result<Vec<&[u8]>, AllocError>
 /// One of the words.
 pub fn word_at<'a>(words: &[&'a [u8]], i: usize) -> &'a [u8]
     requires { i < length words.now }
+    // Promise: The word at a place is that of the list of words, and an empty word is found
+    // - of `word_at`, `none_empty`
     ensures { result.now ≡ word (map (λ w. w.now) words.now) i }
 {
     words[i]

@@ -32,6 +32,7 @@ pub trait Service<K: Link> {
     fn serve<R: Wait + Sync>(&self, rt: &R, alloc: Global, token: &mut Self::Token, link: &mut K)
         requires shared { IsSync R.row }
         requires fair { fair self.now token.old link.old }
+        // Promise: What a service does with a link and a token is its relation
         ensures { serves self.now token.old link.old token.new link.new };
 }
 
@@ -135,8 +136,16 @@ pub fn run_workers<L: Door + Send, S: Service<L::Link> + Sync, R: Threads + Wait
     service: &S,
 )
     requires home { All (λ s. L.is_out s.door ≡ false) stations.old }
+    // Promise: A service serves only links that are fair to serve on the token that the links
+    // before left
+    // - of `run_workers`, `Service::serve`
+    // - by the condition `fair` (`IsFair`)
     requires fair { All (IsFair L.tells L.coming (S.serves service.now) (S.fair service.now))
         stations.old }
+    // Promise: Each link that a door gave was served once, with that door's token, in order, and
+    // went back to its door. A station has failed only where a call of its door was counted as a
+    // fault; the door of any other gives no more links
+    // - by `length`, `each` (`EachServes`)
     ensures length { length stations.new ≡ length stations.old }
     ensures each { EachServes L.tells L.coming L.returned L.is_out L.faults L.identity
         (S.serves service.now) stations.old stations.new }

@@ -57,6 +57,10 @@ impl Counters {
     pub fn new(alloc: Global, items: u16) -> Result<Counters, Memory>
         requires { items ≤ 512 }
         ensures items { IfOk result (λ c. length c.counts ≡ items) }
+        // Promise: After any sessions that were finished the counters hold the counts of these
+        // sessions
+        // - of `Counters::new`, `Counters::finish`
+        // - by `none`, `counts`, `finished`, `sessions`
         ensures none { IfOk result (λ c. IsTallyOf [] c) }
     {
         let none = Counts { alpha: 0, eps: 0 };
@@ -114,6 +118,10 @@ impl Counters {
     /// The counts of an item.
     pub fn read(&self, item: u16) -> Counts
         requires { item < length self.now.counts }
+        // Promise: The counts of an item, the number of items and the number of finished sessions
+        // can be read
+        // - of `Counters::read`, `Counters::items`, `Counters::finished`
+        // - by `counts`, `items`, `finished`
         ensures counts { result ≡ counts_at self.now item }
         ensures alpha { result.alpha ≤ self.now.finished }
         ensures eps { result.eps ≤ self.now.finished }

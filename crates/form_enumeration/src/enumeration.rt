@@ -37,6 +37,9 @@ fn better_of(problem: &Problem, kept: Option<ItemSet>, set: ItemSet) -> Option<I
 }
 
 /// A form of greatest objective among all sets of items; none where no set is a form.
+// Promise: In a bank of at most 16 items: a form that no form exceeds, over all sets of items, or
+// none exactly where no set is a form
+// - by `Best`, `HasNoForm`
 pub fn best_form(problem: &Problem) -> Option<ItemSet>
     requires well_made { IsWellMade (problem_of problem.now) }
     requires small { size problem.now.bank.now ≤ 16 }

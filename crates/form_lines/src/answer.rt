@@ -114,10 +114,14 @@ pub fn series_lines(
     requires weights { (g : ℕ) → get_or weights.now g 0 ≤ 1000 }
     // The weights are the grid's, and the lines are those of a series with its value, its mark and
     // its tree.
+    // Promise: The lines are those of a series of the plan, with its value, its mark and its tree;
+    // the weights are the grid's
     ensures lines { IfOk result (λ text. AreWeightsFor bank.now weights.now
         × TellsSeries (series_problem bank.now spec.now weights.now forms) text.items) }
     // The weights are not the grid's; or there is no series; or the base budget was spent with none
     // found; or memory ran out.
+    // Promise: Without lines, the weights are not the grid's; or there is no series, which the tree
+    // shows; or the tree spends the base budget with none found; or memory ran out
     ensures ends { IfErr result (IsEnd bank.now spec.now weights.now forms) }
 {
     if !are_weights_for(bank, weights) {

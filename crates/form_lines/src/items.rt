@@ -10,6 +10,8 @@ use std::alloc::{AllocError, Global};
 
 /// The word of a mark: whether a form or a series is proved best.
 pub fn mark_text(proved: bool) -> &'static str
+    // Promise: A mark, and the items of a form, are written as stated
+    // - of `mark_text`, `push_items`
     ensures { result.now ≡ mark_text proved }
 {
     if proved { "proved" } else { "unproved" }

@@ -93,6 +93,8 @@ pub(crate) fn series_text(
 /// The line where there is no series: the tree shows it. The only error is lack of memory.
 #[tactic(auto, unfolding(crate::specs::Texts::no_series))]
 pub fn no_series_text(alloc: Global, tree: &SeriesTree) -> Result<Vec<u8>, Memory>
+    // Promise: The line of a tree without a series is written as stated
+    // - of `no_series_text`, `none_found_text`
     ensures { IfOk result (λ text. text.items ≡ no_series tree.now) }
 {
     let mut text = Vec::new(alloc);

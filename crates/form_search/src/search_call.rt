@@ -277,6 +277,8 @@ pub fn search(
 ) -> Result<Searched, Memory>
     requires well_made { IsWellMade (problem_of problem.now) }
     requires budget { IsBudget budget }
+    // Promise: A form that the search returns is a form. Nothing is promised of its tree, since it
+    // is tested
     ensures form { IfOk result (λ s. IfSome s.form (λ x. Form (problem_of problem.now) (has x))) }
 {
     let table = Table::of(alloc, problem)?;

@@ -121,26 +121,35 @@ pub fn assemble_series(
     requires budget { IsBudget budget }
     // The checker's verdict on the tree is that of the outcome; undecided, the tree spends the
     // budget.
+    // Promise: The checker's verdict on the tree is that of the outcome; undecided, the tree spends
+    // the budget
     ensures shown { IfOk result (λ s. IsShown
         (record { bank = bank.now; plan = spec.now; weights = weights.now; forms = forms })
         s.tree budget s.outcome) }
     // Proved, no series has a greater value; without a series, there is none.
+    // Promise: A proved series is best; without a series, there is none
     ensures is_true { IfOk result (λ s. IsTrueOutcome
         (record { bank = bank.now; plan = spec.now; weights = weights.now; forms = forms })
         s.outcome) }
     // The forms are in ascending order of their lowest item.
+    // Promise: The forms are in ascending order of their lowest item
     ensures order { IfOk result (λ s. IsInOrder
         (record { bank = bank.now; plan = spec.now; weights = weights.now; forms = forms })
         s.outcome) }
     // Beside a series that is not proved best, and nowhere else, there may be a number that the
     // value of no series exceeds.
+    // Promise: A number that stands beside a series which is not proved best is one that the value
+    // of no series exceeds, and the checker accepts its tree; it stands nowhere else
     ensures bound { IfOk result (λ s. IsBoundOf
         (record { bank = bank.now; plan = spec.now; weights = weights.now; forms = forms })
         s.outcome s.bound) }
     // With enough nodes it decides.
+    // Promise: With a budget of nodes for a branch on each item in each form, it decides
     ensures decided { IfOk result (λ s. 2 ^ (forms * size bank.now + 1) ≤ budget + 1
         → IsDecided s.outcome) }
     // Of one form and one point of weight 1, a proved series is a best form of the whole problem.
+    // Promise: Of one form and one point of weight 1, a proved series is a best form of the whole
+    // problem, and its value that form's objective
     ensures one_form { IfOk result (λ s. (g : ℕ) → forms ≡ 1
         → weight_of (record { bank = bank.now; plan = spec.now; weights = weights.now; forms = forms })
         g ≡ 1

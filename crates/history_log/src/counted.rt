@@ -26,6 +26,9 @@ impl<T> Model for Counted<T> {
 impl<T> Counted<T> {
     /// The empty list.
     pub fn new() -> Counted<T>
+        // Promise: Contracts see the values that were pushed, in order; at run time there is only
+        // their number
+        // - of `Counted::new`, `Counted::push`, `Counted::count`
         ensures { result ≡ [] }
     {
         Counted {

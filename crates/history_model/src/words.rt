@@ -8,6 +8,8 @@ use crate::refusal::Refusal;
 /// The word for a refusal, in replies of each kind: lowercase letters and dashes. A reply has the
 /// value of the refusal beside it.
 pub fn refusal_word(refusal: Refusal) -> &'static str
+    // Promise: A refusal has one word in replies of each kind
+    // - by the clause (`refusal_word`)
     ensures { result.now ≡ refusal_word refusal }
 {
     match refusal {

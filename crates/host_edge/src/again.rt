@@ -24,6 +24,9 @@ fn interrupted_on_and_on() -> io::Error
 
 /// Reads bytes of a file from a place on.
 pub fn read_at_again(file: &File, at: u64, buffer: &mut [u8]) -> io::Result<usize>
+    // Promise: A read of a file is made again while a signal interrupts it, and gives at most as
+    // many bytes as there is room for
+    // - by `count`, `retried`
     ensures count { IfOk result (λ k. k ≤ length buffer.new) }
     ensures retried { IfErr result (λ e. error_kind e ≢ ErrorKind.Interrupted) }
 {
@@ -137,6 +140,8 @@ pub fn accept_again(
 }
 
 /// A connection to an address, each of whose places is tried for so long, one after another.
+// Promise: A connection is made to the first place of an address that takes one in time
+// - by none
 pub fn connect_within(rt: &HostRuntime, address: &str, limit: Duration) -> io::Result<TcpStream> {
     let mut cause = io::Error::new(ErrorKind::InvalidInput, "no such address");
     for place in address.to_socket_addrs(rt)? {

@@ -21,6 +21,11 @@ pub struct Closing {
 impl Closing {
     /// Nothing that ends a server has happened. It is asked to end at this socket, if there is one.
     /// An error where there is no room for it.
+    // Promise: What ends a server is shared by the journal's file and the doors. Nothing is stated
+    // of its values, since another thread may set them
+    // - of `Closing::new`, `Closing::share`, `Closing::set`, `Closing::is_set`,
+    //   `Closing::has_operator`
+    // - by none
     pub fn new(alloc: Global, operator: Option<UnixListener>) -> Result<Closing, AllocError> {
         Ok(Closing {
             flag: Arc::new(alloc, AtomicBool::new(false))?,

@@ -38,6 +38,12 @@ impl HostDisk {
     pub fn of(rt: HostRuntime, path: String, access: Access) -> HostDisk
         ensures count { count_of (faults_of result) ≡ 0 }
         ensures cause { cause_of (faults_of result) ≡ None }
+        // Promise: The file of a journal is that of the path, and is opened to be read alone, to be
+        // written, to be written if it is long enough for a journal, or to be made if there is
+        // none. With other lines or a reserve it is the same file, opened in the same way
+        // - of `HostDisk::of`, `HostDisk::to_serve`, `HostDisk::to_read`, `HostDisk::telling`,
+        //   `HostDisk::keeping`
+        // - by `file` (`path_of`, `access_of`)
         ensures file { (path_of result ≡ string_bytes path) × (access_of result ≡ access) }
     {
         HostDisk::over(JournalFile::of(rt, path, access), None)
@@ -54,6 +60,8 @@ impl HostDisk {
 
     /// The same disk, of which these lines tell.
     pub fn telling(self, lines: Lines) -> HostDisk
+        // Promise: A disk or a door that gets other lines, or a reserve, keeps its faults
+        // - of `HostDisk::telling`, `HostDisk::keeping`, `HostDoor::telling`
         ensures faults { faults_of result ≡ faults_of self }
         ensures file { (path_of result ≡ path_of self)
             × (access_of result ≡ access_of self) }

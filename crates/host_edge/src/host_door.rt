@@ -132,6 +132,10 @@ impl HostDoor {
         limit: Duration,
         links: Option<u64>,
     ) -> HostDoor
+        // Promise: A new door has its listener and its number of links, and no link is out. From
+        // then on it gives no more links only after that number, and without a listener each of its
+        // accepts fails
+        // - by `listens`, `left`, `out` (`IsLinkCounted`)
         ensures listens { listens result ≡ is_some listener }
         ensures left { left_of result ≡ links }
         ensures out { out_of result ≡ false }
@@ -152,6 +156,10 @@ impl HostDoor {
     /// for a minute does. Each read after that byte and each write waits for at most a minute. No
     /// call has failed yet.
     pub fn to_follow(rt: HostRuntime, listener: Option<TcpListener>) -> HostDoor
+        // Promise: A follower's door has its listener, and gives any number of links; a shipper's
+        // has an address to connect to, and gives one. No link is out
+        // - of `HostDoor::to_follow`, `HostDoor::to_ship`
+        // - by `listens`, `left`, `out`
         ensures listens { listens result ≡ is_some listener }
         ensures left { left_of result ≡ None }
         ensures out { out_of result ≡ false }
@@ -240,6 +248,9 @@ impl HostDoor {
 
     /// The same door, of which these lines tell.
     pub fn telling(self, lines: Lines) -> HostDoor
+        // Promise: A door that gets other lines keeps its listener, its number of links, and
+        // whether a link is out
+        // - by `listens`, `left`, `out`
         ensures listens { listens result ≡ listens self }
         ensures left { left_of result ≡ left_of self }
         ensures out { out_of result ≡ out_of self }
@@ -303,6 +314,8 @@ impl HostDoor {
         closing: Option<&Closing>,
         lines: &Lines,
     ) -> Result<Vec<HostDoor>, Memory>
+        // Promise: Of several doors no link is out, and each gives the stated number of links
+        // - by `count`, `home`, `left`, `deaf`
         ensures count { IfOk result (λ all. vec_len all ≡ doors) }
         ensures home { IfOk result (λ all. All (λ d. out_of d ≡ false) all.items) }
         ensures left { IfOk result (λ all. All (λ d. left_of d ≡ links) all.items) }

@@ -52,6 +52,12 @@ fn read_kept(
 impl HostFiles {
     /// The files that the runtime reaches; no call has failed yet.
     pub fn of(rt: HostRuntime) -> HostFiles
+        // Promise: A call is counted as a fault exactly where it fails, and the cause of the last
+        // that failed is kept
+        // - of `HostFiles::of`, `HostSink::of`, `HostDisk::of`, `HostDisk::to_serve`,
+        //   `HostDisk::to_read`, `HostDoor::of`, `HostDoor::to_follow`, `HostDoor::to_ship`,
+        //   `HostLink::of`
+        // - by `count`, `cause` (`IsCounted`)
         ensures count { count_of (faults_of result) ≡ 0 }
         ensures cause { cause_of (faults_of result) ≡ None }
     {
@@ -64,12 +70,18 @@ impl HostFiles {
     }
 
     /// The path of the file whose read failed last, if there was memory to keep it.
+    // Promise: The path of the file whose read failed last is kept. Nothing is stated of what a
+    // file, an output or a socket holds
+    // - by none
     pub fn refused(&self) -> Option<&str> {
         Some(self.refused.as_ref()?.as_str())
     }
 
     /// Why the last call that failed did.
     pub fn cause(&self) -> Option<io::Error>
+        // Promise: The cause of the last call that failed can be read
+        // - of `HostFiles::cause`, `HostSink::cause`, `HostDisk::cause`, `HostDoor::cause`
+        // - by the clause (`cause_of`)
         ensures { result ≡ cause_of (faults_of self.now) }
     {
         self.faults.cause()

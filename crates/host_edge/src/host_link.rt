@@ -55,6 +55,9 @@ pub struct Patience {
 impl Patience {
     /// That of the messages of HTTP: so long for the first byte, then 5 seconds for the next bytes
     /// and 15 for a whole message.
+    // Promise: How long a link waits is a value. Nothing is stated of time
+    // - of `Patience::of_messages`, `Patience::of_records`
+    // - by none
     pub fn of_messages(first: Duration) -> Patience {
         Patience {
             first,
@@ -162,6 +165,9 @@ impl HostLink {
     pub fn of(rt: HostRuntime, stream: TcpStream, patience: Patience) -> HostLink
         ensures count { count_of (faults_of result) ≡ 0 }
         ensures cause { cause_of (faults_of result) ≡ None }
+        // Promise: A new link has not ended. From then on it ends where a call of it fails, and
+        // each later call fails too; or where its connection rests, and then it gives no bytes
+        // - by `over`, `rest` (`is_over`, `is_at_rest`)
         ensures over { is_over result ≡ false }
         ensures rest { is_at_rest result ≡ false }
     {
@@ -209,6 +215,9 @@ impl HostLink {
     /// Ends the connection, or, if its door keeps it, gives it back: to be served further exactly
     /// if the link is at rest, else to end once its client has taken what was written.
     pub fn close(self) -> Option<Connection>
+        // Promise: A connection that a door keeps is served further exactly if its link rests; any
+        // other is ended
+        // - by `kept`, `ended` (`serves`, `is_at_rest`, `is_gathered`)
         ensures kept { is_gathered self ≡ true → serves result ≡ is_at_rest self }
         ensures ended { is_gathered self ≡ false → IsNone result }
     {

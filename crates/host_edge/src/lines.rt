@@ -89,6 +89,11 @@ impl Queue {
 
 impl Lines {
     /// Lines that their callers write.
+    // Promise: Lines are written to standard error by their caller, or queued for a thread that
+    // copies them. Nothing is stated of what arrives, nor of time
+    // - of `Lines::direct`, `Lines::queued`, `Lines::share`, `Lines::tell`, `Lines::tell_of`,
+    //   `Lines::finish`, `LineCopier::run`
+    // - by none
     pub fn direct(rt: HostRuntime) -> Lines {
         Lines { rt, queue: None }
     }

@@ -72,6 +72,10 @@ fn is_of_room(cause: &io::Error) -> bool {
 impl Reserve {
     /// The reserve of so many bytes beside the journal of this path, and what keeps it. Nothing is
     /// written yet.
+    // Promise: A reserve beside the journal is written by a thread, and cut where the journal has
+    // no room. Nothing is stated of the disk
+    // - of `Reserve::of`, `Reserve::begin`, `Reserve::write`, `ReserveKeeper::run`
+    // - by none
     pub fn of(
         rt: HostRuntime,
         lines: &Lines,

@@ -61,6 +61,9 @@ fn is_at(rt: &HostRuntime, path: &str, file: &File) -> io::Result<bool> {
 impl HostJournal {
     /// The file of this path, which the server at this address writes; no call has failed yet.
     pub fn of(rt: HostRuntime, lines: Lines, path: String, server: String) -> HostJournal
+        // Promise: A new object has counted no fault, and no link is out
+        // - of `HostJournal::of`, `HostJournal::quiet`, `HostFollower::of`
+        // - by the clause, `faults`, `out`
         ensures { faults_of result ≡ 0 }
     {
         HostJournal::over(rt, lines, path, server, false)

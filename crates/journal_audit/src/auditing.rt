@@ -123,15 +123,29 @@ pub fn audit<D: Disk>(
     requires plan { IsPlanFor bank.now spec.now }
     requires left { IsTrue (D.tells disk.old) → IsAsLeft (D.accounts disk.old) }
     // The file represents a history, and the numbers are those of that history.
+    // Promise: The summary and the exposure are those of the history that the file represents: each
+    // record was judged, its proof tree included
+    // - by `found` (`IsAudit`)
+    // Promise: With them is the exposure of each band of the plan, in order: how many finished
+    // sessions visited it, and in how many of those each item was shown there and was eligible
+    // there
+    // - by `found` (`IsAudit`, `AreBandExposuresOf`)
     ensures found { IfOk result (λ found. IsTrue (D.tells disk.old)
         → IsAudit bank.now spec.now (D.content disk.old) found.0 found.1
         found.2.items) }
     // What is wrong with the file, if anything is. Nothing is wrong with a file of either version
     // within the limit that represents a history.
+    // Promise: A file of either version that represents no history is refused with the first thing
+    // that is wrong with it, never for its version. A mark of proof without its tree is such a
+    // fault. `Disk` comes only where the disk's count of faults rose
+    // - by `why` (`IsReadAnswer`), `cause`
     ensures why { IfErr result (λ e. IsTrue (D.tells disk.old)
         → IsReadAnswer bank.now spec.now (D.content disk.old) e) }
     ensures cause { IfErr result (λ e. e ≡ OfDisk
         → Rose (D.faults disk.old) (D.faults disk.new)) }
+    // Promise: The file is not changed. At each moment a crash leaves what it might have left
+    // before; of a settled disk that is its content
+    // - by `untouched`, `moments`, `settled`, `grows`, `tells`
     ensures untouched { IsTrue (D.tells disk.old) → D.content disk.new ≡ D.content disk.old }
     // At each moment of the call a crash leaves what it might have left before.
     ensures moments { IsTrue (D.tells disk.old)
@@ -143,6 +157,9 @@ pub fn audit<D: Disk>(
         (λ file. file ≡ D.content disk.old) }
     // What opening would cut was put aside once. If there is no answer it may not have been;
     // nothing else ever is.
+    // Promise: What opening would cut was put aside once where an audit answers. Else it was, or
+    // nothing was put aside
+    // - by `aside`, `aside_err` (`PutsAsideOrNot`)
     ensures aside { OnOk result (IsTrue (D.tells disk.old)
         → D.aside disk.new ≡ D.aside disk.old ++ tail_gates (D.content disk.old)) }
     ensures aside_err { OnErr result (IsTrue (D.tells disk.old)
@@ -164,6 +181,8 @@ pub fn audit_disk<D: Disk>(
 ) -> (D, Result<(Summary, Exposure, Vec<Exposure>), OpenFault>)
     requires plan { IsPlanFor bank.now spec.now }
     requires left { IsTrue (D.tells disk) → IsAsLeft (D.accounts disk) }
+    // Promise: The same of a disk that is handed over and handed back
+    // - by `found`, `why`, `cause`, `untouched`, `moments`, `aside`, `aside_err`, `frame`
     ensures found { IfOk result.1 (λ found. IsTrue (D.tells disk)
         → IsAudit bank.now spec.now (D.content disk) found.0 found.1
         found.2.items) }

@@ -94,10 +94,18 @@ pub fn stream_door<G: GrowingLog, L: Door, R: Wait>(
 ) -> DoorEnd
     requires home { L.is_out door.old ≡ false }
     requires allowed { AllowsAll L.Link.tells L.Link.allows }
+    // Promise: The links of a door are streamed over, one after another, each from the records that
+    // the one before it left, and each goes back to its door. If records and links are reported,
+    // what was written over each are the offers that answer its haves, each of a record that was
+    // settled when it was sent. It ends where the door gives no other link, or at the first link
+    // that neither failed nor was ended by the follower
+    // - by `streamed` (`IsStreamedDoor`, `IsStreamed`)
     ensures streamed { IsStreamedDoor L.tells L.coming L.returned L.is_out L.faults L.identity
         L.Link.tells L.Link.left L.Link.written L.Link.faults L.Link.identity
         (G.tells log.old) (G.records log.old) door.old door.new (G.records log.new) result }
     ensures tells { G.tells log.new ≡ G.tells log.old }
+    // Promise: `Disk` comes only where the file's count of faults rose
+    // - by `disk`, `grows`, `tells`
     ensures disk { result ≡ DoorEnd.Ended Followed.Disk
         → Rose (G.faults log.old) (G.faults log.new) }
     ensures grows { G.faults log.old ≤ G.faults log.new }

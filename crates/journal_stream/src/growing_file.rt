@@ -40,6 +40,10 @@ pub trait GrowingFile {
     /// Reads bytes from a place on to the front of the buffer, and answers how many: fewer than
     /// there is room for only at the end of the file.
     fn read(&mut self, at: u64, buffer: &mut [u8]) -> Result<usize, Failed>
+        // Promise: A read gives bytes of the file at one moment, fewer than there is room for only
+        // at its end, and the settled records only become more. `Failed` comes only where the count
+        // of faults rose
+        // - by `count`, `bytes`, `all`, `grown`, `moved`, `tells`, `failed`, `grows`
         ensures count { IfOk result (λ k. k ≤ length buffer.old) }
         ensures bytes { IfOk result (λ k. IsTrue (tells self.old)
             → take k buffer.new ≡ take k (drop at (content self.new))) }
@@ -56,10 +60,16 @@ pub trait GrowingFile {
         ensures grown { IsTrue (tells self.old) → IsGrown (settled self.old) (settled self.new) }
         ensures moved { moved self.new ≡ moved self.old }
         ensures tells { tells self.new ≡ tells self.old }
+        // Promise: Bytes that are no journal's are counted as a fault
+        // - by `failed`, `grown`, `moved`, `tells`, `grows`
         ensures failed { Rose (faults self.old) (faults self.new) }
         ensures grows { faults self.old ≤ faults self.new };
 
     /// Notes that the follower has so many records.
+    // Promise: A note and a wait leave the settled records, or more; a wait gives a count that is
+    // no greater than theirs
+    // - of `GrowingFile::note`, `GrowingFile::wait`
+    // - by `told`, `grown`, `moved`, `tells`, `grows`
     fn note(&mut self, count: u64)
         ensures grown { IsTrue (tells self.old) → IsGrown (settled self.old) (settled self.new) }
         ensures moved { moved self.new ≡ moved self.old }

@@ -67,6 +67,10 @@ impl<F: GrowingFile> JournalTail<F> {
 
     /// The records of a file, of which none was read yet.
     pub fn new(file: F) -> JournalTail<F>
+        // Promise: The records of a file are its settled ones, as
+        // [`GrowingLog`](#both-sides-of-a-link-of-records-record_links) states: what is given of a
+        // number is that settled record, or nothing yet, or there are fewer
+        // - of `JournalTail::new`, `JournalTail::into_file`
         ensures { result.file ≡ file }
     {
         JournalTail {

@@ -12,6 +12,10 @@ ghost use Rattle.journal_stream.specs.Served.{IsServed, moved_of};
 /// record in doubt, whichever of the files that a crash may leave it is. One record more leaves the
 /// old payloads as they are. Of a journal that is being moved nothing is settled.
 pub fn a_journal_is_served()
+    // Promise: A journal of version 2, moved or not, is such a file of its settled records: at
+    // rest, with a record staged, or with one in doubt. It is so whichever of the files that a
+    // crash may leave is read
+    // - by `rest`, `staged`, `doubt` (`IsServed`)
     ensures rest { (version : ℕ) (ps : List (List ℕ)) (content : List ℕ)
         (accounts : List Account) (size : ℕ)
         → IsAtRest (header version) content accounts size
@@ -26,6 +30,9 @@ pub fn a_journal_is_served()
         → IsInDoubt (header version) all payload accounts size with_it
         → counted version all ≡ second ps → IsImage (latest accounts) content
         → IsServed (moved_of version all) ps content }
+    // Promise: One record more leaves its old payloads; of a journal that is being moved nothing is
+    // settled
+    // - by `kept`, `moving`
     ensures kept { (version : ℕ) (all ps : List (List ℕ)) (payload : List ℕ)
         → counted version all ≡ second ps
         → moved_of version (all ++ payload ∷ []) ≡ moved_of version all }

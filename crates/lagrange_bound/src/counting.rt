@@ -129,6 +129,9 @@ fn first_stimulus(problem: &Problem, cut: &Cut) -> Option<u8>
 
 /// The lowest row that is impossible by counting, by number: 0 is the length, then come the rows of
 /// the plan and the stimuli; None exactly where there is none. Takes no memory.
+// Promise: The row that is named is the lowest that is impossible by counting on the path; none
+// exactly where there is none
+// - by `IsFirstImpossible`
 pub fn impossible(problem: &Problem, cut: &Cut) -> Option<u8>
     requires well_made { IsWellMade (problem_of problem.now) }
     requires cut { IsCut (problem_of problem.now) cut.now }

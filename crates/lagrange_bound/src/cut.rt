@@ -27,6 +27,10 @@ pub struct Cut {
 
 impl Cut {
     /// The state of the path with no branch: the items given are taken, the items barred are out.
+    // Promise: A `Cut` is the state of a path of branches: the items taken, out and free, the
+    // stimuli chosen and open
+    // - of `Cut::root`, `Cut::with_item`, `Cut::with_stimulus`
+    // - by `IsCutOf`
     pub fn root(problem: &Problem) -> Cut
         requires { IsWellMade (problem_of problem.now) }
         ensures { IsCutOf (problem_of problem.now) (root (problem_of problem.now)) result }

@@ -117,6 +117,9 @@ pub fn bound(problem: &Problem, cut: &Cut, vector: &Vector, ray: bool) -> Option
     requires well_made { IsWellMade (problem_of problem.now) }
     requires cut { IsCut (problem_of problem.now) cut.now }
     requires sides { NamesOnlySides (problem_of problem.now) vector.now }
+    // Promise: The bound is the relaxed maximum, none exactly where the length is impossible, and
+    // no form on the path exceeds it (256 times its objective; 0 for a ray)
+    // - by `maximum`, `above`
     ensures maximum { (p : Path) → IsCutOf (problem_of problem.now) p cut.now →
         IsBound (problem_of problem.now) p vector.now ray result }
     ensures above { IfSome result (λ r. (p : Path) → IsCutOf (problem_of problem.now) p cut.now →

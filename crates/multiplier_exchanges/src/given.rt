@@ -31,6 +31,9 @@ pub struct Given<'a> {
 
 impl Relaxation {
     /// The relaxation of some columns, of whose items so many are taken.
+    // Promise: A relaxation that is given by its columns and lines, as that of several forms
+    // - of `Relaxation::given`, `Relaxation::add_given`, `Relaxation::end_given`
+    // - by none
     pub fn given(
         alloc: Global,
         columns: Columns,
@@ -105,6 +108,10 @@ impl Relaxation {
 
 impl Vertex {
     /// The multiplier of each line: positive where more of the line would let the bound fall.
+    // Promise: The multiplier of each line of a given relaxation, at a vertex or in a direction
+    // from it
+    // - of `Vertex::prices`, `Vertex::prices_towards`
+    // - by none
     pub fn prices<'a>(
         &self,
         relaxation: &Relaxation,

@@ -57,6 +57,9 @@ fn vector_of(
 
 impl Vertex {
     /// The vector of the vertex.
+    // Promise: The vector of a vertex, or of a direction from it
+    // - of `Vertex::vector`, `vector_towards`
+    // - by none
     pub fn vector(
         &self,
         alloc: Global,

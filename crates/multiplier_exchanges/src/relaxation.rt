@@ -617,6 +617,9 @@ impl Relaxation {
     }
 
     /// The relaxation of a problem at its root.
+    // Promise: The relaxation of a problem, and the column that a branch is on
+    // - of `Relaxation::of`, `Relaxation::branch_on`
+    // - by none
     pub fn of(alloc: Global, problem: &Problem, root: &PathSets) -> Result<Relaxation, Memory> {
         let mut relaxation = Relaxation::empty(alloc, gains_of(problem, &root.taken));
         relaxation.fill(alloc, problem, root)?;

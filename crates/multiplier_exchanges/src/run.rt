@@ -24,6 +24,9 @@ pub enum Reached {
 impl Vertex {
     /// At most so many exchanges, until the bound is at most the target. A ray is believed only of
     /// a fresh inverse.
+    // Promise: Exchanges, at most so many, and where they ended
+    // - of `Vertex::run`, `Vertex::bound`
+    // - by none
     pub fn run(
         &mut self,
         relaxation: &Relaxation,

@@ -301,6 +301,9 @@ impl Vertex {
 
     /// The vertex of the items of the greatest gains, as many as the length needs. The length is
     /// tight, and the last of them is basic.
+    // Promise: A first vertex, copies of it, and where a path holds its columns
+    // - of `Vertex::first`, `Vertex::again`, `Vertex::hold_on`
+    // - by none
     pub fn first(
         alloc: Global,
         relaxation: &Relaxation,

@@ -34,6 +34,8 @@ pub struct Workspace {
 
 impl Workspace {
     /// Room that is empty.
+    // Promise: Room for the numbers of an exchange
+    // - by none
     pub fn new(alloc: Global) -> Workspace {
         Workspace {
             direction: Direction {

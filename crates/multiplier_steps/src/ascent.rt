@@ -48,6 +48,8 @@ pub fn climb(
     aim: Aim,
 ) -> Result<Ascent, Memory>
     requires { IsWellMade (problem_of problem.now) }
+    // Promise: Quick steps give a vector that names sides of the plan, and promise nothing of its
+    // bound
     ensures { IfOk result (λ ascent. NamesOnlySides (problem_of problem.now) ascent.vector) }
 {
     let ascent = steps_from(alloc, problem, cut, from, aim)?;
@@ -85,6 +87,9 @@ pub fn improve(
 ) -> Result<Vector, Memory>
     requires well_made { IsWellMade (problem_of problem.now) }
     requires cut { IsCut (problem_of problem.now) cut.now }
+    // Promise: Subgradient steps never give a vector with a higher bound than the one they began
+    // with; that they lower it is only measured
+    // - by `sides`, `no_higher`
     requires sides { NamesOnlySides (problem_of problem.now) from.now }
     ensures sides { IfOk result (λ vector. NamesOnlySides (problem_of problem.now) vector) }
     ensures no_higher { IfOk result (λ vector.

@@ -59,6 +59,9 @@ fn awaiting(reply: &Reply) -> Option<Key> {
 
 impl<'h, 'a, D: Disk, G: Gate + Observer> PreparingCaller<'h, 'a, D, G> {
     /// A caller with this pass and this place at the desk.
+    // Promise: A caller is its hall and its pass, and gives the pass back
+    // - of `PreparingCaller::new`, `PreparingCaller::into_pass`
+    // - by `pass`, `of`
     pub fn new(
         hall: &'h Hall<'a, D>,
         gate: &'h G,

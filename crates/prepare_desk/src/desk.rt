@@ -72,6 +72,10 @@ impl<'a> Desk<'a> {
         base: ItemSet,
         room: u32,
     ) -> Result<Desk<'a>, Memory>
+        // Promise: A desk is made for a bank, a plan and a base form, with room for so many
+        // results, and has none at first. No call changes what it is for
+        // - of `Desk::new`, `Desk::take`, `Desk::put`
+        // - by `purpose`, `none`, `room`
         ensures purpose { IfOk result (λ d. d.purpose
             ≡ record { bank = bank.now; plan = spec.now; base = base }) }
         ensures none { IfOk result (λ d. d.results ≡ []) }
@@ -107,8 +111,14 @@ impl<'a> Desk<'a> {
     /// Takes out what is ready for an answer, and the result that it is. There is none unless it
     /// was put, and not displaced since.
     pub fn take(&mut self, key: Key) -> Option<Assembled<'a>>
+        // Promise: What is taken out is the result that was put for the answer, or that of the
+        // response whose problem is the same. The desk has all others afterwards
+        // - by `ready` (`ready_at`), `left` (`left_at`)
         ensures ready { result ≡ ready_at self.old.results key }
         ensures left { self.new ≡ record self.old { results = left_at self.old.results key } }
+        // Promise: What is taken out of a desk was assembled for its bank and plan, within the
+        // plan's budget, with its base as the hint
+        // - by `prepared` (`IsPrepared`)
         ensures prepared { IfSome result (IsPrepared self.old.purpose.bank
             self.old.purpose.plan self.old.purpose.base) }
     {
@@ -125,6 +135,8 @@ impl<'a> Desk<'a> {
 
     /// Whether something was put for an answer, and is on the desk.
     pub fn has(&self, key: Key) -> bool
+        // Promise: Whether something was put for an answer, and is on the desk
+        // - by the clause (`put_for`)
         ensures { result ≡ is_some (put_for self.now.results key) }
     {
         self.results.contains(&key)
@@ -132,9 +144,14 @@ impl<'a> Desk<'a> {
 
     /// Puts what is ready for an answer. If there is no room, what was put longest ago is
     /// displaced. `Memory` is lack of memory: the desk is as it was.
+    // Promise: If memory runs out while a result is put, the desk is as it was
+    // - by `same`
     pub fn put(&mut self, key: Key, ready: Ready<'a>) -> Result<(), Memory>
         requires { IsReadyFor self.old.purpose ready }
         ensures purpose { self.new.purpose ≡ self.old.purpose }
+        // Promise: What is put is on the desk afterwards. If there was no room, what was put
+        // longest ago is not
+        // - by `put` (`put_entries`)
         ensures put { OnOk result (self.new ≡ record self.old {
           results =
               put_entries is_key (lru_cache self.old.results self.old.room) key ready.entry;
@@ -150,6 +167,9 @@ impl<'a> Desk<'a> {
     /// The answers that something is ready for, that of the result put last first. They are no more
     /// than the desk has room for.
     pub fn keys(&self, alloc: Global) -> Result<Vec<Key>, Memory>
+        // Promise: The answers that something is ready for are listed, that of the result put last
+        // first. They are no more than the desk has room for
+        // - by `keys`, `few`
         ensures keys { IfOk result (λ keys. keys.items ≡ map (λ r. r.0) self.now.results) }
         ensures few { length self.now.results ≤ self.now.room }
     {

@@ -35,12 +35,18 @@ impl<'a> Desk<'a> {
     ) -> Reply
         requires of { IsOf pass.old hall.now }
         requires purpose { self.old.purpose ≡ purpose_of hall.now }
+        // Promise: With a desk of its own a caller's request keeps these promises too. If that desk
+        // has a form for the answer, an item that is served at the next step is the one of that
+        // form, unless another caller set eligibility aside for the session meanwhile
+        // - by `sees` (`Sees`), `used` (`Uses`, `ready_for`), `reply`, `of`, `grown`
         ensures sees { Sees hall.now (marked pass.old) (marked pass.new) request.now result }
         ensures used { IfSome (ready_for self.old.results request.now)
             (Uses hall.now (marked pass.old) (marked pass.new) request.now) }
         ensures of { IsOf pass.new hall.now }
         ensures grown { HasGrown pass.old pass.new }
         ensures reply { IsReply result }
+        // Promise: A request takes what is ready for it off such a desk, and nothing else
+        // - by `left` (`left_for`)
         ensures left { self.new ≡ record self.old {
           results = left_for self.old.results request.now;
         } }
@@ -81,6 +87,9 @@ impl<'a> Desk<'a> {
         ensures of { IsOf pass.new hall.now }
         ensures grown { HasGrown pass.old pass.new }
         ensures purpose { self.new.purpose ≡ self.old.purpose }
+        // Promise: All that is put on such a desk while forms are prepared is for answers in that
+        // session
+        // - by `adds` (`AddsFor`)
         ensures adds { AddsFor session self.old.results self.new.results }
     {
         let mut before: Option<Before<'a>> = None;

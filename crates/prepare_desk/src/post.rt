@@ -33,6 +33,8 @@ pub fn shared<'a>(
     base: ItemSet,
     room: u32,
 ) -> Result<(Turn<Desk<'a>>, Pass<Desk<'a>>), Memory>
+    // Promise: The first pass of a shared desk has seen what the desk is for, and was not split
+    // - by `first` (`IsFirstOf`), `splits`
     ensures first { IfOk result (λ r. IsFirstOf r.0
         (record { bank = bank.now; plan = spec.now; base = base }) r.1) }
     ensures splits { IfOk result (λ r. r.1.splits ≡ 0) }
@@ -71,6 +73,9 @@ impl<'h, 'a> Post<'h, 'a> {
         requires of { first.old.turn ≡ desk.now }
         requires first { (first.old.number ≡ 0) × (first.old.splits < 65535) }
         ensures first { first.new ≡ record first.old { splits = first.old.splits + 1 } }
+        // Promise: A place at a desk has a pass of its own, which has seen as much as the first
+        // one. That one was split once more
+        // - by `seen`, `first`
         ensures seen { result.seen ≡ first.old.seen }
     {
         let pass = desk.split(first);
@@ -79,6 +84,7 @@ impl<'h, 'a> Post<'h, 'a> {
 
     /// Whether something is on the desk for an answer. It waits for a turn at the desk.
     pub fn has<R: Wait>(&mut self, rt: &R, key: Key) -> bool
+        // Promise: Looking at a shared desk leaves what it is for
         ensures { (p : DeskPurpose) → self.old.seen ≡ p ∷ [] → self.new.seen ≡ p ∷ [] }
     {
         self.desk.turn(rt, &mut self.pass, &mut LookUp { key })
@@ -117,7 +123,12 @@ impl<'h, 'a> Post<'h, 'a> {
         request: &Request,
     ) -> Reply
         requires of { IsOf pass.old hall.now }
+        // Promise: A place at a desk stays one for the bank, the plan and the base form of the hall
+        // - of `Post::handle`, `Post::prepare`
+        // - by `post` (`IsPostOf`)
         requires post { IsPostOf hall.now self.old }
+        // Promise: A request keeps each promise of `Hall::handle`, whatever is on the desk
+        // - by `sees` (`Sees`), `reply`, `of`, `grown`
         ensures sees { Sees hall.now (marked pass.old) (marked pass.new) request.now result }
         ensures of { IsOf pass.new hall.now }
         ensures grown { HasGrown pass.old pass.new }
@@ -159,6 +170,9 @@ impl<'h, 'a> Post<'h, 'a> {
     ) -> Result<u32, Memory>
         requires of { IsOf pass.old hall.now }
         requires post { IsPostOf hall.now self.old }
+        // Promise: Preparing takes turns of the hall that add nothing, or none
+        // - of `Post::prepare`, `Desk::prepare`
+        // - by `idles` (`IsIdle`, `Went`), `of`, `grown`, `purpose`
         ensures idles { IsIdle (marked pass.old) (marked pass.new) }
         ensures of { IsOf pass.new hall.now }
         ensures grown { HasGrown pass.old pass.new }

@@ -10,18 +10,21 @@ ghost use Rattle.proof_tree.specs.Cuts.{IsCutOff};
 
 /// What is written is read again, whatever follows.
 pub fn written_is_read()
+    // Promise: Written and read again is the same tree, for every tree and whatever follows
     ensures { (T : ProofTree) (rest : List ℕ) → IsTree T
         → read (bytes_of T ++ rest) ≡ Ok (T, length (bytes_of T)) }
 {}
 
 /// What is read was spelled so: a tree has one spelling.
 pub fn one_spelling()
+    // Promise: What is read was encoded so; so no tree has two encodings
     ensures { (bytes : List ℕ) (T : ProofTree) (used : ℕ) → ((i : ℕ) → slice_index bytes i < 256)
         → read bytes ≡ Ok (T, used) → IsTree T × BeginsWith bytes T × (used ≡ length (bytes_of T)) }
 {}
 
 /// No spelling of a tree begins that of another.
 pub fn no_spelling_begins_another()
+    // Promise: No tree's encoding is a prefix of another's
     ensures { (T U : ProofTree) (x y : List ℕ) → IsTree T → IsTree U
         → bytes_of T ++ x ≡ bytes_of U ++ y → T ≡ U }
 {}
@@ -29,6 +32,8 @@ pub fn no_spelling_begins_another()
 /// A tree that is cut off anywhere is reported as such: Short within a field, Unfinished between
 /// two nodes.
 pub fn cut_off_is_told()
+    // Promise: A tree that is cut off anywhere is Short within a field, or Unfinished between two
+    // nodes, and has no other fault
     ensures { (T : ProofTree) (k : ℕ) → IsTree T → k < length (bytes_of T)
         → IsCutOff k (read (take k (bytes_of T))) }
 {}
@@ -36,5 +41,6 @@ pub fn cut_off_is_told()
 /// A tree's bytes in hexadecimal digits are read back as its bytes, so that a printed tree is one
 /// that can be read.
 pub fn text_is_read()
+    // Promise: A tree's bytes written in hexadecimal are read back to those bytes
     ensures { (T : ProofTree) → IsTree T → decode_of (encode_lower (bytes_of T)) ≡ Ok (bytes_of T) }
 {}

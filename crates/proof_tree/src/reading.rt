@@ -276,12 +276,17 @@ fn tree_of(alloc: Global, bytes: &[u8]) -> Result<(Tree, usize), TreeFault>
 /// The tree that the bytes begin with, and how many bytes it takes; what follows isn't looked at.
 pub fn decode(alloc: Global, bytes: &[u8]) -> Result<(Tree, usize), TreeFault>
     // What is read is the one spelling of the tree.
+    // Promise: If `decode` succeeds, the input begins with the tree's one encoding, and the count
+    // is its length
     ensures found { IfOk result (λ x. IsTree x.0 × BeginsWith bytes.now x.0
         × (x.1 ≡ length (bytes_of x.0))) }
     // What is spelled so is read, whatever follows, unless memory runs out.
+    // Promise: What is encoded is read, whatever follows, unless memory runs out
     ensures only { (T : ProofTree) → IsTree T → BeginsWith bytes.now T
         → Gives Memory (λ x. x) result (Ok (T, length (bytes_of T))) }
     // Which fault it is, and where.
+    // Promise: Each fault comes exactly where reading from left to right meets it, with the place
+    // of the field or node
     ensures exact { Gives Memory (λ x. x) result (read bytes.now) }
 {
     tree_of(alloc, bytes)

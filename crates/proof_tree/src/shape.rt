@@ -7,6 +7,9 @@ use certificate_model::Node;
 
 /// Whether a node has subtrees after it: two after a branch, one after a `Fix`.
 pub fn is_branch(node: &Node) -> bool
+    // Promise: Whether a node is a branch, and whether a leaf of some nodes is Open
+    // - of `is_branch`, `has_open_leaf`
+    // - by the clauses
     ensures { IsTrue result ↔ IsBranch node.now }
 {
     match node {

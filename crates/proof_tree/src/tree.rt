@@ -147,6 +147,9 @@ impl Tree {
 
     /// The tree of these vectors and nodes; None exactly where they are none.
     pub fn of(vectors: List<Vector>, nodes: List<Node>) -> Option<Tree>
+        // Promise: Vectors and nodes are a tree exactly where they keep the rules
+        // - of `Tree::of`, `Tree::new`, `Tree::vectors`, `Tree::nodes`
+        // - by `some`, `tree`
         ensures some { IsSome result ↔ IsTree (record { vectors = vectors; nodes = nodes }) }
         ensures tree { IfSome result (λ t. t ≡ record { vectors = vectors; nodes = nodes }) }
     {

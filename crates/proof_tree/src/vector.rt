@@ -52,6 +52,10 @@ impl Vector {
     /// The vector of these pairs; None exactly where the sides don't ascend strictly or a
     /// multiplier is out of its range.
     pub fn of(pairs: List<(u16, u32)>) -> Option<Vector>
+        // Promise: A list of pairs is a vector exactly where its sides ascend strictly and its
+        // multipliers are from 1 to 16,777,216
+        // - of `Vector::of`, `Vector::new`, `Vector::pairs`
+        // - by `some`, `pairs`
         ensures some { IsSome result ↔ IsVector 0 pairs }
         ensures pairs { IfSome result (λ v. v ≡ pairs) }
     {
@@ -64,6 +68,7 @@ impl Vector {
 
     /// A copy of the vector; the only error is lack of memory.
     pub fn again(&self, alloc: Global) -> Result<Vector, AllocError>
+        // Promise: A vector copied is the same vector; the only error is lack of memory
         ensures { IfOk result (λ copy. copy ≡ self.now) }
     {
         let pairs = Vec::from_slice(alloc, self.pairs())?;

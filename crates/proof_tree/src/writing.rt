@@ -71,6 +71,8 @@ fn push_nodes(out: &mut Vec<u8>, nodes: &[Node]) -> Result<(), AllocError>
 /// The one spelling of the tree.
 #[tactic(auto, unfolding(crate::specs::Spelling::bytes_of))]
 pub fn encode(alloc: Global, tree: &Tree) -> Result<Vec<u8>, AllocError>
+    // Promise: The bytes written are the tree's one encoding, of a bounded length
+    // - by `spelling`, `few`
     ensures spelling { IfOk result (λ bytes. bytes.items ≡ bytes_of tree.now) }
     ensures few { IfOk result (λ bytes. length bytes.items ≤ 98809) }
 {

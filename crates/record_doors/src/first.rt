@@ -22,6 +22,9 @@ pub fn follow_first<F: Replica, L: Door, R: Wait>(
 ) -> DoorEnd
     requires home { All (λ door. L.is_out door ≡ false) doors.old }
     requires allowed { AllowsAll L.Link.tells L.Link.allows }
+    // Promise: Of several doors only the first is used; no door counts as one that gives no link
+    // - of `follow_first`, `ship_first`
+    // - by `followed`, `shipped` (`IsFirstOnly`), `length`
     ensures followed { IsFirstOnly (λ door after.
         IsFollowedDoor L.tells L.coming L.returned L.is_out L.faults L.identity
         L.Link.tells L.Link.left L.Link.written L.Link.faults L.Link.identity

@@ -90,10 +90,23 @@ pub fn follow_door<F: Replica, L: Door, R: Wait>(
 ) -> DoorEnd
     requires home { L.is_out door.old ≡ false }
     requires allowed { AllowsAll L.Link.tells L.Link.allows }
+    // Promise: The links of a door are followed one after another, each from the records that the
+    // one before it left, and each goes back to its door. It ends where the door gives no other,
+    // where it fails, or at the first link that does not end well
+    // - of `follow_door`, `follow_first`
+    // - by `followed` (`IsFollowedDoor`)
+    // Promise: A door fails, a link ends as failed, and a disk fails only where its count of faults
+    // rose; no count falls
+    // - of `follow_door`, `follow_first`, `ship_door`, `ship_first`
+    // - by `followed`, `shipped`, `disk`, `grows`
     ensures followed { IsFollowedDoor L.tells L.coming L.returned L.is_out L.faults L.identity
         L.Link.tells L.Link.left L.Link.written L.Link.faults L.Link.identity
         (F.may_follow replica.old) (F.size replica.old) (F.limit replica.old)
         (F.held replica.old) door.old door.new (F.held replica.new) result }
+    // Promise: The replica keeps its rule, its sizes and its limit, and what no call changes; the
+    // log keeps its records
+    // - of `follow_door`, `follow_first`, `ship_door`, `ship_first`
+    // - by `rule`, `same`, `tells`, `later`
     ensures rule { IsSameRule (F.may_follow replica.old) (F.may_follow replica.new)
         (F.size replica.old) (F.size replica.new) (F.limit replica.old) (F.limit replica.new) }
     ensures later { F.is_later replica.old replica.new }

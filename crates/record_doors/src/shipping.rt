@@ -40,6 +40,11 @@ fn ship_out<S: RecordLog, L: Door>(
 pub fn ship_door<S: RecordLog, L: Door>(alloc: Global, log: &mut S, door: &mut L) -> DoorEnd
     requires home { L.is_out door.old ≡ false }
     requires allowed { AllowsAll L.Link.tells L.Link.allows }
+    // Promise: One link of a door is taken, and goes back to it. If the records and the link are
+    // reported, the offers of the records that were asked for were written; `Done` has the count of
+    // the records, and no refused offer ended it
+    // - of `ship_door`, `ship_first`
+    // - by `shipped` (`IsShippedDoor`)
     ensures shipped { IsShippedDoor L.tells L.coming L.returned L.is_out L.faults L.identity
         L.Link.tells L.Link.left L.Link.written L.Link.faults L.Link.identity
         (S.tells log.old) (S.records log.old) door.old door.new result }

@@ -136,8 +136,16 @@ pub fn follow_link<F: Replica, K: Link, R: Wait>(
 ) -> Followed
     // Whether the link tells its bytes or not.
     requires { AllowsAll K.tells K.allows }
+    // Promise: Also where the link does not report its bytes, the follower went through deliveries,
+    // one after another, and `Done` has the count of its records
+    // - by `moved` (`IsMoved`)
     ensures moved { IsMoved (F.may_follow replica.old) (F.size replica.old) (F.limit replica.old)
         (F.held replica.old) (F.held replica.new) result }
+    // Promise: A link leaves the follower where the offers read leave it, in their order. It wrote
+    // a have of the records at the start, and one after each of them; where the link failed, a
+    // beginning of these. `Done` comes at the end, and `Peer` where the bytes are no message of a
+    // shipper
+    // - by `followed` (`IsFollowed`)
     ensures followed { IsTrue (K.tells link.old) → (text : List ℕ)
         × (K.written link.new ≡ K.written link.old ++ text)
         × IsFollowed (F.may_follow replica.old) (F.size replica.old) (F.limit replica.old)
@@ -145,6 +153,10 @@ pub fn follow_link<F: Replica, K: Link, R: Wait>(
     ensures rule { IsSameRule (F.may_follow replica.old) (F.may_follow replica.new)
         (F.size replica.old) (F.size replica.new) (F.limit replica.old) (F.limit replica.new) }
     ensures later { F.is_later replica.old replica.new }
+    // Promise: `Link` and `Disk` come only where the count of faults of the link, or of the replica
+    // or the log, rose
+    // - of `follow_link`, `ship_link`, `stream_link`
+    // - by `failed`, `disk`
     ensures failed { result ≡ Followed.Link → Rose (K.faults link.old) (K.faults link.new) }
     ensures disk { result ≡ Followed.Disk → Rose (F.faults replica.old) (F.faults replica.new) }
     ensures grows { F.faults replica.old ≤ F.faults replica.new }

@@ -41,6 +41,9 @@ pub trait GrowingLog {
 
     /// What there is of the record of a number.
     fn ask(&mut self, alloc: Global, number: u64) -> Result<Asked, AskFault>
+        // Promise: What a growing log has of a number is its record, or nothing yet; or there are
+        // fewer records than the number
+        // - by `gives` (`Gives`), `fits`, `grown`, `failed`, `grows`
         ensures gives { IfOk result (λ asked. IsTrue (tells self.old)
             → Gives (records self.new) number asked) }
         ensures fits { IfOk result IsAnswer }
@@ -53,6 +56,8 @@ pub trait GrowingLog {
     /// Waits a while for more records. Whether the other side of a link is to hear something
     /// meanwhile: a link on which nothing moves for a minute is given up.
     fn wait(&mut self) -> bool
+        // Promise: A wait leaves the records, or more
+        // - by `grown`, `grows`
         ensures grown { IsTrue (tells self.old) → IsGrown (records self.old) (records self.new) }
         ensures tells { tells self.new ≡ tells self.old }
         ensures grows { faults self.old ≤ faults self.new };

@@ -23,6 +23,7 @@ impl MemoryRecords {
     /// No records, of which none will begin with this byte, and which will be at most so many. It
     /// takes no memory.
     pub fn new(alloc: Global, refused: u8, limit: u64) -> MemoryRecords
+        // Promise: Records in memory are none at first
         ensures { payloads_of result ≡ [] }
     {
         MemoryRecords {

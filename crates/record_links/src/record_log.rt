@@ -41,6 +41,9 @@ pub trait RecordLog {
     /// The payload of the record of a number. After a fault the records are as before.
     fn record(&mut self, alloc: Global, number: u64) -> Result<Vec<u8>, LogFault>
         requires { number < length (records self.old) }
+        // Promise: The record of a number is given, if the log reports its records; the records
+        // stay, and `Disk` comes only where the count of faults rose
+        // - by `record`, `fits`, `same`, `failed`, `grows`
         ensures record { IfOk result (λ payload. IsTrue (tells self.old)
             → slice_get (records self.old) number ≡ Some payload.items) }
         ensures fits { IfOk result (λ payload. IsPayload payload.items) }

@@ -50,6 +50,8 @@ pub trait Replica {
 
     /// How many records it has, without one in doubt.
     fn count(&self) -> u64
+        // Promise: The count is that of the records, without one in doubt
+        // - of `Replica::count`, `RecordLog::count`
         ensures { result ≡ length (held self.now).records };
 
     /// Delivers an offer, and answers how many records it has then, each on its disk for sure. It
@@ -57,18 +59,35 @@ pub trait Replica {
     /// refused; one with another number leaves the records.
     fn take(&mut self, alloc: Global, number: u64, payload: &[u8]) -> Result<u64, TakeFault>
         requires { IsPayload payload.now }
+        // Promise: A count is answered only where an offer was delivered: with the next number its
+        // record may follow and was appended, and with another number the records stay. With a
+        // record in doubt at the start, they may have it added. The count is that of the records
+        // after it
+        // - by `taken` (`Takes`, `Delivers`), `count`
         ensures taken { IfOk result (λ _. Takes (may_follow self.old) (held self.old)
             (offer_of number payload.now) (held self.new)) }
         ensures count { IfOk result (λ n. n ≡ length (held self.new).records) }
+        // Promise: An offer is refused only where it has the next number and may not follow; there
+        // is no room only where it may follow and the size is above the limit; only a failed disk
+        // leaves a record in doubt
+        // - by `fault` (`Fails`)
         ensures fault { IfErr result (Fails (may_follow self.old) (size self.old) (limit self.old)
             (held self.old) (offer_of number payload.now) (held self.new)) }
+        // Promise: A stop while an offer is delivered leaves the records, mended or not, or these
+        // with the record taken
+        // - by `stops` (`StopLeaves`)
         ensures stops { (left : List (List ℕ)) → may_leave self.old self.new left
             → StopLeaves (may_follow self.old) (held self.old) (offer_of number payload.now) left }
+        // Promise: Rule, sizes and limit stay; the count of faults does not fall, and `Disk` comes
+        // only where it rose
+        // - by `rule` (`IsSameRule`), `grows`, `failed`
         ensures rule { IsSameRule (may_follow self.old) (may_follow self.new) (size self.old)
             (size self.new) (limit self.old) (limit self.new) }
         ensures failed { IfErr result (λ e. e ≡ TakeFault.Disk
             → Rose (faults self.old) (faults self.new)) }
         ensures grows { faults self.old ≤ faults self.new }
+        // Promise: What no call changes of a replica or a log is as it was
+        // - of `Replica::take`, `RecordLog::record`, `follow_link`, `ship_link`
         ensures later { is_later self.old self.new };
 
     ghost later_itself: { (s : Self) → is_later s s };

@@ -102,14 +102,26 @@ fn ship_message<S: RecordLog, K: Link>(
 /// two haves for each record, and one more.
 pub fn ship_link<S: RecordLog, K: Link>(alloc: Global, log: &mut S, link: &mut K) -> Followed
     requires { AllowsAll K.tells K.allows }
+    // Promise: For each have of a record a shipper wrote its offer, in their order, and 03 after
+    // the have of all; where it is not `Done`, a beginning of these. It read at most two haves for
+    // each record and one more. This holds of a log that reports its records
+    // - by `shipped` (`IsShipped`)
     ensures shipped { IsTrue (S.tells log.old) → IsTrue (K.tells link.old) → (text : List ℕ)
         × (K.written link.new ≡ K.written link.old ++ text)
         × IsShipped (S.records log.old) (K.left link.old) text result }
     // Whether the log and the link tell or not.
+    // Promise: Whatever is reported, a shipper's link ends with no refused offer and with no file
+    // that is full
+    // - by `ends` (`IsShipperEnd`)
     ensures ends { IsShipperEnd result }
+    // Promise: `Done` has the count of the records
     ensures done { (count : ℕ) → result ≡ Followed.Done count
         → count ≡ length (S.records log.old) }
     ensures same { S.records log.new ≡ S.records log.old }
+    // Promise: A log that reports its records never answers that one is lost, and reports them
+    // still
+    // - of `ship_link`, `RecordLog::record`
+    // - by `lost`, `tells`
     ensures lost { IsTrue (S.tells log.old) → (n : ℕ) → result ≢ Followed.Lost n }
     ensures tells { S.tells log.new ≡ S.tells log.old }
     ensures later { S.is_later log.old log.new }

@@ -167,10 +167,18 @@ pub fn stream_link<G: GrowingLog, K: Link, R: Wait>(
     link: &mut K,
 ) -> Followed
     requires { AllowsAll K.tells K.allows }
+    // Promise: While records are added, `stream_link` wrote one offer for each have: of its record,
+    // or of the one before it. Each was among the records when it was sent; where the link failed,
+    // a beginning of these. `Peer` comes only where the bytes are no have, or a have above the
+    // records
+    // - by `streamed` (`IsStreamed`)
     ensures streamed { IsTrue (G.tells log.old) → IsTrue (K.tells link.old) → (text : List ℕ)
         × (K.written link.new ≡ K.written link.old ++ text)
         × IsStreamed (G.records log.old) (G.records log.new) (K.left link.old) text result }
     // Whether the log and the link tell or not.
+    // Promise: Such a link ends only by a fault of the link, the peer, the log's file or memory,
+    // and the records only become more
+    // - by `ends` (`IsLinkEnd`), `grown` (`IsGrown`)
     ensures ends { IsLinkEnd result }
     ensures grown { IsTrue (G.tells log.old) → IsGrown (G.records log.old) (G.records log.new) }
     ensures tells { G.tells log.new ≡ G.tells log.old }

@@ -23,6 +23,7 @@ fn without_line(alloc: Global, booking: u64, items: &ItemSet) -> Result<Vec<u8>,
 /// The line of a request in a script, without its line feed.
 #[tactic(auto, using(crate::proofs::RequestTexts::request_texts))]
 pub fn request_line(alloc: Global, request: &Request) -> Result<Vec<u8>, Memory>
+    // Promise: The line that is printed of a request is the stated one
     ensures { IfOk result (λ line. line.items ≡ request_line request.now) }
 {
     let line = match request {

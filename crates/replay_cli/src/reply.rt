@@ -104,6 +104,9 @@ fn refusal_line(alloc: Global, refusal: Refusal) -> Result<String, Memory>
 /// `Complete` nor `Closed`.
 #[tactic(auto, unfolding(crate::specs::Replies::line_of))]
 pub fn reply_line(alloc: Global, reply: &Reply) -> Result<Vec<u8>, Memory>
+    // Promise: The text of a reply is the stated one: the place of a session, the exposure counts
+    // with a line for each item, or why the request was refused
+    // - by the clause (`line_of`)
     ensures { IfOk result (λ line. line.items ≡ line_of reply.now) }
 {
     let line = match reply {

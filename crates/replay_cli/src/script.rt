@@ -191,14 +191,26 @@ fn requests_in(alloc: Global, text: &[u8]) -> Result<Vec<Request>, ScriptFault>
 /// read to its end. Of several faulty lines the first is named. `Source` is given only if the
 /// source's count of faults rose.
 pub fn read_script<S: Source>(alloc: Global, source: &mut S) -> Result<Vec<Request>, ScriptFault>
+    // Promise: A text is read as the requests of which it is the script: the line of each request,
+    // in order, where the last line may lack its line feed
+    // - by `found` (`IsScript`)
     ensures found { IfOk result (λ v. IsTrue (S.tells source.old)
         → IsScript (S.left source.old) v.items) }
+    // Promise: `TooLong` comes exactly by the number of bytes
+    // - by `within`, `fault`
     ensures within { IfOk result (λ _. IsTrue (S.tells source.old)
         → length (S.left source.old) ≤ most_bytes) }
+    // Promise: After `Ok` the text was read to its end. `Source` comes only if the source's count
+    // of faults rose in this call
+    // - by `whole`, `failed`
     ensures whole { IfOk result (λ _. IsTrue (S.tells source.old) → S.left source.new ≡ []) }
+    // Promise: `Line` names the first line that is not the line of a request, counted from 1
+    // - by `fault` (`IsScriptFault`, `IsFirstFaultyLine`)
     ensures fault { IfErr result (λ e. IsTrue (S.tells source.old)
         → IsScriptFault (S.left source.old) e) }
     // A script that is not too long is read.
+    // Promise: A script of at most 16,777,216 bytes is read; only a source that failed, or out of
+    // memory, prevents it
     ensures only { IfErr result (λ e. IsTrue (S.tells source.old)
         → length (S.left source.old) ≤ most_bytes
         → (requests : List Request) → IsScript (S.left source.old) requests
@@ -207,6 +219,9 @@ pub fn read_script<S: Source>(alloc: Global, source: &mut S) -> Result<Vec<Reque
         → Rose (S.faults source.old) (S.faults source.new)) }
 
     // Requests, and what refuses a text, are answers only where there is something to read.
+    // Promise: Requests, or a fault of the text, come only from a source that can be read at all;
+    // the names that have files stay as they were
+    // - by `there`, `there_refused`, `has`, `beside`
     ensures there { IfOk result (λ _. IsTrue (S.tells source.old)
         → IsTrue (S.there source.old)) }
     ensures there_refused { IfErr result (λ e. IsOfText e → IsTrue (S.tells source.old)

@@ -39,6 +39,8 @@ impl ScriptFault {
     /// The line that reports to a user what is wrong with a script, with its line feed.
     #[tactic(auto, unfolding(crate::specs::Texts::script_text, exam_text::specs::Texts::files_failed, exam_text::specs::Texts::no_memory))]
     pub fn text(self, alloc: Global) -> Result<String, AllocError>
+        // Promise: The line that is printed of a fault is the stated one
+        // - by the clause (`script_text`)
         ensures { IfOk result (λ line. string_bytes line ≡ script_text self) }
     {
         match self {

@@ -21,6 +21,9 @@ pub struct Waiting {
 }
 
 /// Lets a path wait, before all others.
+// Promise: Each path that waits for its subtree has the state of some path of branches
+// - of `wait`, `next_path`, `push_below`
+// - by `AreStates`, `IsCut`
 pub fn wait(problem: &Problem, waiting: &mut Vec<Waiting>, path: Waiting) -> Result<(), Memory>
     requires cut { IsCut (problem_of problem.now) path.cut }
     requires waiting { AreStates (problem_of problem.now) waiting.old.items }
@@ -43,6 +46,8 @@ pub fn next_path(problem: &Problem, waiting: &mut Vec<Waiting>) -> Option<Waitin
 
 /// The path below a branch, on its first side or the other; the path itself where it can't branch
 /// so.
+// Promise: The path below a branch has such a state
+// - by `IsCut`
 pub fn below(problem: &Problem, cut: &Cut, node: &Node, first: bool) -> Cut
     requires well_made { IsWellMade (problem_of problem.now) }
     requires cut { IsCut (problem_of problem.now) cut.now }

@@ -12,6 +12,7 @@ use constraint_model::{Problem, is_form};
 /// The set of items, if there is one and it is a form of the problem.
 pub fn tested_form(problem: &Problem, items: &Option<ItemSet>) -> Option<ItemSet>
     requires { IsWellMade (problem_of problem.now) }
+    // Promise: A set of items that is handed over is a form
     ensures { IfSome result (λ x. Form (problem_of problem.now) (has x)) }
 {
     let items = items.as_ref()?;

@@ -78,19 +78,26 @@ pub fn check_series(
 ) -> SeriesVerdict
     requires { IsSeriesProblem
         (record { bank = bank.now; plan = spec.now; weights = weights.now; forms = forms }) }
+    // Promise: The verdict on a series tree is the one by definition: the sets are tested first,
+    // then the nodes in preorder; the first unsound node is named, else the Open leaves are counted
     ensures verdict { IsSeriesVerdict
         (record { bank = bank.now; plan = spec.now; weights = weights.now; forms = forms })
         (option_copied series.entry) at_most tree.now result }
     // No series has a greater value.
+    // Promise: Where the verdict is Optimal, the sets are a series, and no series has a greater
+    // value
     ensures best { result ≡ SeriesVerdict.Optimal → at_most ≡ None
         → IsSomeAnd (option_copied series.entry) (λ sets. BestSeries
         (record { bank = bank.now; plan = spec.now; weights = weights.now; forms = forms })
         (forms_of sets)) }
     // No series has a value above the number.
+    // Promise: Where it is Optimal for a number in place of the value, no series has a value above
+    // that number
     ensures at_most { (top : ℕ) → result ≡ SeriesVerdict.Optimal → at_most ≡ Some top
         → NoneAbove
         (record { bank = bank.now; plan = spec.now; weights = weights.now; forms = forms }) top }
     // There is no series.
+    // Promise: Where the verdict is NoSeries, there is no series
     ensures none { result ≡ SeriesVerdict.NoSeries → HasNoSeries
         (record { bank = bank.now; plan = spec.now; weights = weights.now; forms = forms }) }
 {

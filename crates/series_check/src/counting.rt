@@ -55,6 +55,10 @@ fn stimulus_impossible(setting: &Setting, standing: &Standing, which: u8) -> boo
 pub fn is_impossible(setting: &Setting, standing: &Standing, row: u8) -> bool
     requires problem { IsSeriesProblem (problem_of setting.now) }
     requires standing { IsStanding (one_form setting.now) standing.now }
+    // Promise: A row of a form is impossible by counting, no item is free in a form, a node is
+    // sound: each exactly where the definition has it
+    // - of `is_impossible`, `is_whole`, `is_sound`
+    // - by the clauses
     ensures { result ≡ is_impossible (one_form setting.now) (form_path_of standing.now) row }
 {
     if row == 0 {

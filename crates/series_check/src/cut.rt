@@ -17,6 +17,10 @@ pub struct SeriesCut {
 
 /// The path with no branch.
 pub fn root_cut() -> SeriesCut
+    // Promise: The path with no branch, the path below a branch on an item and a form, and the two
+    // paths below a sound branch
+    // - of `root_cut`, `below_form`, `paths_below`
+    // - by the clauses
     ensures { path_of result ≡ root }
 {
     let none = ItemSet::empty();

@@ -60,6 +60,10 @@ pub fn is_sound(
     node: &SeriesNode,
 ) -> bool
     requires { IsSeriesProblem (problem_of setting.now) }
+    // Promise: A vector that names a side from 2,304 on is judged by the rule of the pool, any
+    // other by that of each form, each exactly where the definition has it; one with a threshold is
+    // unsound
+    // - by the clause (`NamesOnlySides`, `ClosesByBound`, `MaximumIsBelow`)
     ensures { IsTrue result
         ↔ IsSound (problem_of setting.now) bar.now tree.now (path_of cut.now) node.now }
 {

@@ -79,6 +79,9 @@ fn standing_with(bank: &Bank, taken: ItemSet, out: ItemSet) -> Standing
 pub fn standing_on(setting: &Setting, cut: &SeriesCut, form: u8) -> Standing
     requires few { setting.now.forms ≤ 4 }
     requires form { form < setting.now.forms }
+    // Promise: The items that are free in a form on a path, and the stimuli that are chosen and
+    // open there
+    // - by `path`, `standing`
     ensures path { form_path_of result
         ≡ form_path (problem_of setting.now) (path_of cut.now) form }
     ensures standing { IsStanding (one_form setting.now) result }

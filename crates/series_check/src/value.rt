@@ -56,6 +56,8 @@ pub fn are_apart(forms: u8, sets: &[ItemSet]) -> bool
 pub fn is_series(setting: &Setting, sets: &[ItemSet]) -> bool
     requires problem { IsSeriesProblem (problem_of setting.now) }
     requires enough { setting.now.forms ≤ length sets.now }
+    // Promise: Sets are a series exactly where the definition has it
+    // - by the clauses
     ensures { IsTrue result ↔ IsSeries (problem_of setting.now) (forms_of sets.now) }
 {
     all_meet(setting, sets) && are_apart(setting.forms, sets)

@@ -83,6 +83,8 @@ pub fn outcome_shown(
     budget: u16,
 ) -> Option<SeriesOutcome>
     requires { IsSeriesProblem (problem_of setting.now) }
+    // Promise: Forms and a tree are let in only where the checker's verdict on the tree is that of
+    // the outcome; undecided, the tree spends the budget
     ensures { IfSome result (IsShown (problem_of setting.now) tree.now budget) }
 {
     match forms {

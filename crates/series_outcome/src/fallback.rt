@@ -153,7 +153,10 @@ fn outcome_of(
 pub fn search_fallback(alloc: Global, setting: &Setting, budget: u16) -> Result<Series, Memory>
     requires problem { IsSeriesProblem (problem_of setting.now) }
     requires budget { IsBudget budget }
+    // Promise: The fallback search gives an outcome that its tree shows so, whatever the bank and
+    // the plan; the only error is lack of memory
     ensures shown { IfOk result (λ s. IsShown (problem_of setting.now) s.tree budget s.outcome) }
+    // Promise: With a budget of nodes for a branch on each item in each form, it decides
     ensures decided { IfOk result (λ s. 2 ^ (setting.now.forms * size setting.now.bank.now + 1)
         ≤ budget + 1 → IsDecided s.outcome) }
 {

@@ -17,6 +17,9 @@ pub struct Kinds {
 
 impl Kinds {
     /// All kinds.
+    // Promise: What the trees of a search may have
+    // - of `Kinds::all`, `Kinds::judged`
+    // - by none
     pub fn all() -> Kinds {
         Kinds {
             pool: true,

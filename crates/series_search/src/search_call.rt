@@ -277,6 +277,8 @@ fn gathered(
 /// great as can be, and for a tree within a budget of nodes, which is odd and at most 4,095, that
 /// shows it best, or that there is no series, or that spends the budget. `weights` has one number
 /// for each grid point, and trees have the given kinds alone. All is to be tested.
+// Promise: A series, a tree and a bound, each if one was found
+// - by none
 pub fn search(
     alloc: Global,
     bank: &Bank,

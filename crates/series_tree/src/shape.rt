@@ -7,6 +7,10 @@ use series_model::SeriesNode;
 
 /// Whether a node is a branch, which has two subtrees after it.
 pub fn is_branch(node: &SeriesNode) -> bool
+    // Promise: Whether a node is a branch, whether a leaf of some nodes is Open, and whether a
+    // vector names a side from 2,304 on
+    // - of `is_branch`, `has_open_leaf`, `names_pool`
+    // - by the clauses
     ensures { IsTrue result ↔ IsBranch node.now }
 {
     match node {

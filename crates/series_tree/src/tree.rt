@@ -197,6 +197,9 @@ impl SeriesTree {
 
     /// The tree of these vectors and nodes; None exactly where they are none.
     pub fn of(vectors: List<SeriesVector>, nodes: List<SeriesNode>) -> Option<SeriesTree>
+        // Promise: Vectors and nodes are a series tree exactly where they keep the rules
+        // - of `SeriesTree::of`, `SeriesTree::new`, `SeriesTree::vectors`, `SeriesTree::nodes`
+        // - by `some`, `tree`
         ensures some { IsSome result ↔ IsTree (record { vectors = vectors; nodes = nodes }) }
         ensures tree { IfSome result (λ t. t ≡ record { vectors = vectors; nodes = nodes }) }
     {

@@ -50,6 +50,10 @@ impl SeriesVector {
     /// The vector of these pairs; None exactly where the sides don't ascend strictly or a
     /// multiplier is 0.
     pub fn of(pairs: List<(u16, u32)>) -> Option<SeriesVector>
+        // Promise: A list of pairs is a vector exactly where its sides ascend strictly and no
+        // multiplier is 0
+        // - of `SeriesVector::of`, `SeriesVector::new`, `SeriesVector::pairs`
+        // - by `some`, `pairs`
         ensures some { IsSome result ↔ Ascends 0 pairs }
         ensures pairs { IfSome result (λ v. v ≡ pairs) }
     {
@@ -62,6 +66,7 @@ impl SeriesVector {
 
     /// A copy of the vector; the only error is lack of memory.
     pub fn again(&self, alloc: Global) -> Result<SeriesVector, AllocError>
+        // Promise: A vector copied is the same vector; the only error is lack of memory
         ensures { IfOk result (λ copy. copy ≡ self.now) }
     {
         let pairs = Vec::from_slice(alloc, self.pairs())?;

@@ -79,6 +79,8 @@ fn push_nodes(out: &mut Vec<u8>, nodes: &[SeriesNode]) -> Result<(), AllocError>
 /// The one spelling of the tree; at most 90,619 bytes.
 #[tactic(auto, unfolding(crate::specs::Spelling::bytes_of))]
 pub fn encode_series(alloc: Global, tree: &SeriesTree) -> Result<Vec<u8>, AllocError>
+    // Promise: The bytes written are the tree's one encoding, of a bounded length
+    // - by `spelling`, `few`
     ensures spelling { IfOk result (λ bytes. bytes.items ≡ bytes_of tree.now) }
     ensures few { IfOk result (λ bytes. length bytes.items ≤ 90619) }
 {

@@ -35,6 +35,8 @@ pub fn next_problem_from<'a>(
     requires seat { IsSeat bank.now spec.now seat.now }
     requires sums { IsSumsOf bank.now spec.now.prior (answers seat.now) sums.now }
     ensures pending { IsSome result ↔ IsPending spec.now seat.now }
+    // Promise: The same comes from sums of the prior and the answers that the caller has
+    // - by `problem`, `IsSumsOf`
     ensures problem { IfSome result
         (λ p. IsSeatProblem bank.now spec.now session seat.now (problem_of p)) }
     ensures well_made { IfSome result (λ p. IsWellMade (problem_of p)) }
@@ -70,9 +72,19 @@ pub fn next_problem<'a>(
 ) -> Option<Problem<'a>>
     requires plan { IsPlanFor bank.now spec.now }
     requires seat { IsSeat bank.now spec.now seat.now }
+    // Promise: There is a next problem exactly where the session is not closed, the test is not
+    // complete and each item shown is answered
+    // - of `next_problem`, `next_problem_from`
     ensures pending { IsSome result ↔ IsPending spec.now seat.now }
+    // Promise: It is the problem of the seat. Given are the items shown. Barred are the items of
+    // stimuli that were left, and those withheld from the examinee. Items that are not eligible in
+    // the band of the estimate are barred too, unless eligibility is set aside there. The estimate
+    // is the posterior mode of the answers. The start is the form last served from
+    // - of `next_problem`, `next_problem_from`
     ensures problem { IfSome result
         (λ p. IsSeatProblem bank.now spec.now session seat.now (problem_of p)) }
+    // Promise: Each such problem meets what later calls ask of a problem
+    // - of `next_problem`, `next_problem_from`
     ensures well_made { IfSome result (λ p. IsWellMade (problem_of p)) }
 {
     let sums = sums_of(bank, spec, seat);

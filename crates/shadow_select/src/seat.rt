@@ -10,6 +10,9 @@ use serving_model::Seat;
 /// The seat of a session that begins without a list, with the items that are eligible for it in
 /// each band.
 pub fn new_seat(eligible: &[ItemSet; 8]) -> Seat
+    // Promise: A new seat has nothing shown. A seat is given an item from a form, or a response,
+    // and nothing else of it changes
+    // - of `new_seat`, `with_item`, `with_response`
     ensures { result ≡ new_seat eligible.now }
 {
     Seat {

@@ -72,6 +72,10 @@ pub fn next_item(problem: &Problem, form: &ItemSet) -> u16
     requires well_made { IsWellMade (problem_of problem.now) }
     requires form { Form (problem_of problem.now) (has form.now) }
     requires free { HasFreeItem (problem_of problem.now) (has form.now) }
+    // Promise: The item served is one of the form's items that are not given (those of the last
+    // item's stimulus, if there are any): the one with the greatest information at the estimate,
+    // and in a tie the lowest number
+    // - by `next`, `item`
     ensures next { IsNext (problem_of problem.now) (has form.now) result }
     ensures item { result < size problem.now.bank.now }
 {

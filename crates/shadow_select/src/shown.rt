@@ -13,6 +13,7 @@ use serving_model::Seat;
 /// The number at a place of a short list.
 pub fn number_at(list: &Short, place: usize) -> u16
     requires { place < length list.now }
+    // Promise: A number of a short list can be read at each of its places
     ensures { slice_get list.now place ≡ Some result }
 {
     match list.get(place) {
@@ -23,6 +24,8 @@ pub fn number_at(list: &Short, place: usize) -> u16
 
 /// The items of the bank.
 pub fn all_items(bank: &Bank) -> ItemSet
+    // Promise: The set of all items of a bank, and the set of the items shown
+    // - of `all_items`, `shown_items`
     ensures { (i : ℕ) → has result i ≡ nat_lt i (size bank.now) }
 {
     let mut all = ItemSet::empty();

@@ -36,6 +36,7 @@ impl PlanFault {
     /// The line that reports to a user what is wrong with a plan text, with its line feed.
     #[tactic(auto, unfolding(crate::specs::Texts::plan_text, exam_text::specs::Texts::files_failed, exam_text::specs::Texts::no_memory))]
     pub fn text(self, alloc: Global) -> Result<String, AllocError>
+        // Promise: The line that is printed of a fault is the stated one
         ensures { IfOk result (λ line. string_bytes line ≡ plan_text self) }
     {
         match self {

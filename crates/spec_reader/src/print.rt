@@ -263,6 +263,8 @@ fn push_base(alloc: Global, out: &mut Vec<u8>, base: Option<ItemSet>) -> Result<
 }
 
 /// The canonical text of a plan, which reads back to the same plan. `Memory` is lack of memory.
+// Promise: What is printed is the canonical text of the plan
+// - by `canonical`
 pub fn print_plan(alloc: Global, spec: &Spec) -> Result<Vec<u8>, Memory>
     ensures text { IfOk result (λ text. text.items ≡ canonical spec.now) }
     ensures key { IfOk result (λ _. IsKey spec.now.key) }

@@ -101,15 +101,29 @@ fn plan_in(alloc: Global, bank: &Bank, text: &[u8]) -> Result<Spec, PlanFault>
 /// line, then what is missing, then the faults of the plan. `Source` is given only where the
 /// source's count of faults rose.
 pub fn read_plan<S: Source>(alloc: Global, bank: &Bank, source: &mut S) -> Result<Spec, PlanFault>
+    // Promise: A plan text is read as the plan that its lines describe, and that plan is valid for
+    // the bank
+    // - by `found`, `valid`
     ensures found { IfOk result (λ spec. IsTrue (S.tells source.old)
         → IsPlanText bank.now (S.left source.old) spec) }
+    // Promise: `TooLong` comes exactly by the number of bytes
+    // - by `within`, `fault`
     ensures within { IfOk result (λ _. IsTrue (S.tells source.old)
         → length (S.left source.old) ≤ most_bytes) }
+    // Promise: After `Ok` the text was read to its end. `Source` comes only where the source's
+    // count of faults rose in this call
+    // - by `whole`, `failed`
     ensures whole { IfOk result (λ _. IsTrue (S.tells source.old) → S.left source.new ≡ []) }
     ensures valid { IfOk result (IsPlanFor bank.now) }
+    // Promise: A refusal names the first fault of the text. The order is: the first faulty line
+    // with its kind, the first line that is missing, the first fault of the plan that the lines
+    // describe. A stimulus that the bank does not have comes after the rows and before the bounds
+    // - by `fault` (`IsReadFault`, `IsPlanFault`)
     ensures fault { IfErr result (λ e. IsTrue (S.tells source.old)
         → IsReadFault bank.now (S.left source.old) e) }
     // The text of a plan that is valid for the bank is read.
+    // Promise: A text of at most 1,048,576 bytes that describes a valid plan is read; only a source
+    // that failed, or out of memory, prevents it
     ensures only { IfErr result (λ e. IsTrue (S.tells source.old)
         → length (S.left source.old) ≤ most_bytes
         → (plan : Plan) → IsPlanText bank.now (S.left source.old) plan → IsPlanFor bank.now plan
@@ -118,6 +132,9 @@ pub fn read_plan<S: Source>(alloc: Global, bank: &Bank, source: &mut S) -> Resul
         → Rose (S.faults source.old) (S.faults source.new)) }
 
     // A plan, and what refuses a text, are answers only where there is something to read.
+    // Promise: A plan, or a fault of the text, comes only from a source that can be read at all;
+    // which names have files stays as it was
+    // - by `there`, `there_refused`, `has`
     ensures there { IfOk result (λ _. IsTrue (S.tells source.old) → IsTrue (S.there source.old)) }
     ensures there_refused { IfErr result (λ e. IsOfText e
         → IsTrue (S.tells source.old) → IsTrue (S.there source.old)) }

@@ -25,6 +25,10 @@ fn with_run(set: ItemSet, low: u16, high: u16) -> ItemSet
 /// next to each other. None where the words write no set.
 #[tactic(auto, using(exam_text::proofs::Firsts::all_fails), unfolding(exam_text::specs::Runs::is_set, crate::specs::Sets::in_set))]
 pub fn set_of(words: &[&[u8]]) -> Option<ItemSet>
+    // Promise: Words are read as a set exactly where they are runs, ascending and apart, and the
+    // set has their items; a set is printed as its maximal runs
+    // - of `set_of`, `push_set`
+    // - by `found`, `members`, the clause
     ensures found { is_some result ≡ is_set (map (λ w. w.now) words.now) }
     ensures members { IfSome result (λ s. (x : ℕ)
         → has s x ≡ in_set (map (λ w. w.now) words.now) x) }

@@ -263,6 +263,9 @@ fn reach_of(ray: bool) -> i64 {
 }
 
 /// Goes from a vector by at most so many subgradient steps towards a bound of at most the target.
+// Promise: Steps from a vector, made safely and in the end. Nothing is promised of what they lead
+// to
+// - by none
 pub fn steps_from(
     alloc: Global,
     problem: &Problem,

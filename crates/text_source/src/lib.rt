@@ -27,16 +27,23 @@ pub enum TextFault {
 /// have lost bytes at its front.
 pub fn text_of<S: Source>(alloc: Global, source: &mut S, limit: usize) -> Result<Vec<u8>, TextFault>
     requires { limit < 2 ^ 32 }
+    // Promise: The text is the source's bytes to its end, at most `limit` of them
+    // - by `text`, `within`, `whole`
     ensures text { IfOk result (λ text. IsTrue (S.tells source.old)
         → text.items ≡ S.left source.old) }
     ensures within { IfOk result (λ text. length text.items ≤ limit) }
     ensures whole { IfOk result (λ _. IsTrue (S.tells source.old) → S.left source.new ≡ []) }
+    // Promise: `TooLong` comes exactly by the number of bytes. `Source` comes only where the source
+    // counted a fault in this call; a fault is never taken for the end
+    // - by `too_long`, `within`, `failed`
     ensures too_long { IfErr result (λ e. e ≡ TextFault.TooLong → IsTrue (S.tells source.old)
         → limit < length (S.left source.old)) }
     ensures failed { IfErr result (λ e. e ≡ TextFault.Source
         → Rose (S.faults source.old) (S.faults source.new)) }
 
     // A text and `TooLong` are answers only where there is something to read.
+    // Promise: A text comes only from a source that can be read at all
+    // - by `there`, `there_too_long`
     ensures there { IfOk result (λ _. IsTrue (S.tells source.old) → IsTrue (S.there source.old)) }
     ensures there_too_long { IfErr result (λ e. e ≡ TextFault.TooLong
         → IsTrue (S.tells source.old) → IsTrue (S.there source.old)) }

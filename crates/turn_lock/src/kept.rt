@@ -13,6 +13,9 @@ pub trait Kept {
 
     /// How many entries the history has. It takes no memory.
     fn history_len(&self) -> u64
+        // Promise: A value gives the length of its history; a move states what it needs and what it
+        // makes
+        // - of `Kept::history_len`, `Move::make`
         ensures { result ≡ length (history self.now) };
 }
 

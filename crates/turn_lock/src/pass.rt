@@ -34,6 +34,7 @@ impl<V: Kept> Pass<V> {
     /// The pass's number: 0 for the first pass of a lock, and for another the number of splits when
     /// it was made.
     pub fn number(&self) -> u32
+        // Promise: A pass's number can be read
         ensures { result ≡ self.now.number }
     {
         self.number

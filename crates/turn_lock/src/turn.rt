@@ -35,6 +35,9 @@ impl<V: Kept> Turn<V> {
     /// A lock with the value in it, and its first pass, which has seen the whole history. Out of
     /// memory, the value is given back as it was.
     pub fn new(alloc: Global, value: V) -> Result<(Turn<V>, Pass<V>), V>
+        // Promise: A new lock's pass has seen the value's whole history. If memory runs out the
+        // value is handed back as it was
+        // - by `made`, `same`
         ensures made { IfOk result (λ r. r.1 ≡ new_pass r.0 0 (length (V.history value)) (V.history value)) }
         ensures same { IfErr result (λ v. v ≡ value) }
     {
@@ -68,6 +71,10 @@ impl<V: Kept> Turn<V> {
     pub fn turn<M: Move<V>, R: Wait>(&self, rt: &R, pass: &mut Pass<V>, step: &mut M) -> M::Answer
         requires of { pass.old.turn ≡ self.now }
         requires needs { M.needs step.old pass.old.seen }
+        // Promise: A move is made once, on a value whose history begins with all that the caller's
+        // pass has seen, and adds at most two entries. After it the pass has seen the whole
+        // history, and the new entries are its own
+        // - by `turn` (`TakesTurn`)
         ensures turn { (before : List V.Entry) × TakesTurn pass.old pass.new before
             × M.makes step.old before pass.new.seen step.new result }
     {
@@ -86,6 +93,8 @@ impl<V: Kept> Turn<V> {
     pub fn split(&self, pass: &mut Pass<V>) -> Pass<V>
         requires of { pass.old.turn ≡ self.now }
         requires first { (pass.old.number ≡ 0) × (pass.old.splits < 65535) }
+        // Promise: A split pass has seen as much, has no own entries, and has a new number
+        // - by `pass`, `new`
         ensures pass { pass.new ≡ record pass.old { splits = pass.old.splits + 1 } }
         ensures new { result ≡ new_pass self.now (pass.old.splits + 1) pass.old.start
             pass.old.seen }
@@ -103,6 +112,9 @@ impl<V: Kept> Turn<V> {
     /// and has both their places for its own. It keeps its number and its fronts.
     pub fn join(&self, pass: &mut Pass<V>, other: Pass<V>)
         requires of { (pass.old.turn ≡ self.now) × (other.turn ≡ self.now) }
+        // Promise: Of what two passes have seen one begins the other, and no entry is the own of
+        // both; the joined pass has the longer
+        // - by `joined` (`TakesIn`)
         ensures joined { TakesIn pass.old other pass.new }
     {
         let Pass {
@@ -121,7 +133,13 @@ impl<V: Kept> Turn<V> {
     /// seen.
     pub fn close<R: Wait>(self, rt: &R, pass: Pass<V>) -> V
         requires of { pass.turn ≡ self }
+        // Promise: The history of the value at the end begins with all that the closing pass has
+        // seen
         ensures begins { StartsWith (V.history result) pass.seen }
+        // Promise: If the closing pass is the first one, and as many passes were joined into it as
+        // were split from it, it has seen the whole history, and each entry since the lock was made
+        // is its own
+        // - by `all` (`KnowsAll`)
         ensures all { KnowsAll (V.history result) pass }
     {
         let Turn { table } = self;

@@ -20,6 +20,7 @@ pub struct Kept {
 impl Kept {
     /// No bytes yet. It takes no memory.
     pub fn new(alloc: Global) -> Kept
+        // Promise: Nothing is kept at first
         ensures { bytes_of result ≡ [] }
     {
         Kept {

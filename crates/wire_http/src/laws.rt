@@ -6,6 +6,11 @@ ghost use Rattle.wire_http.specs.Messages.{IsMessage, IsFault, IsSame, IsUndecid
 
 /// Bytes begin with at most one message.
 pub fn one_message()
+    // Promise: Bytes begin with at most one message; bytes with a message have no fault; no bytes
+    // have neither; and bytes have one fault, except a part of a head that no head of at most 64
+    // fields begins with
+    // - of `laws::one_message`, `laws::a_message_or_a_fault`, `laws::no_message_of_no_bytes`,
+    //   `laws::no_fault_of_no_bytes`, `laws::one_fault`
     ensures { (bytes : List ℕ) (m k : Message) (next after : List ℕ)
         → IsMessage bytes m next → IsMessage bytes k after → IsSame m k × (next ≡ after) }
 {}

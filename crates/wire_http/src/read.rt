@@ -119,13 +119,22 @@ pub fn read_request<K: Link>(
     link: &mut K,
     kept: &mut Kept,
 ) -> Result<Option<Message>, WireFault>
+    // Promise: The message that is given is at the front of the connection's bytes, however they
+    // are cut; the rest follows
+    // - by `message` (`IsMessage`)
     ensures message { IfOk result (λ found. IfSome found (λ m. IsTrue (K.tells link.old)
         → IsMessage (bytes_of kept.old ++ K.left link.old) m
         (bytes_of kept.new ++ K.left link.new))) }
+    // Promise: None comes exactly where the connection ends before the first byte of a message
     ensures none { IfOk result (λ found. IfNone found (IsTrue (K.tells link.old)
         → bytes_of kept.old ++ K.left link.old ≡ [])) }
+    // Promise: A fault comes by the rules of the format: a bad head, a head or a body too long, no
+    // length, or an end within a message
+    // - by `fault` (`IsFault`)
     ensures fault { IfErr result (λ e. IsTrue (K.tells link.old)
         → IsFree e ⊎ IsFault (bytes_of kept.old ++ K.left link.old) e) }
+    // Promise: `Link` comes only where the connection's count of faults rose; nothing is written
+    // - by `failed`, `written`
     ensures failed { IfErr result (λ e. e ≡ WireFault.Link
         → Rose (K.faults link.old) (K.faults link.new)) }
     ensures written { IsTrue (K.tells link.old) → K.written link.new ≡ K.written link.old }

@@ -77,6 +77,8 @@ pub fn response_text(
     close: bool,
 ) -> Result<Vec<u8>, Memory>
     requires { IsStatusCode status }
+    // Promise: A response is the text of the stated form
+    // - by the clause (`response`)
     ensures { IfOk result (λ text. text.items ≡ response status body.now close) }
 {
     let mut out = Vec::new(alloc);

@@ -256,9 +256,9 @@ class Library:
         return [key for key in self.definitions if crate in ("", key[0]) and key[2] == last and module in ("", key[1])]
 
     def contract(self, crate: str, file: str, function: str) -> Tuple[str, List[Key]]:
-        """The text of a public function up to its body, and what its contract cites."""
+        """The text of a public function up to its body without the promises of docs/PROMISES.md, and what its contract cites."""
         path = os.path.join(CRATES, crate, "src", file)
-        text = text_of(path)
+        text = re.sub(r"^ *// Promise: .*\n(?: *//(?!/).*\n)*", "", text_of(path), flags=re.M)
         found = re.search(rf"^((?:    )?)pub fn {function}\b.*?^\1\{{", text, re.M | re.S)
         if not found:
             raise LookupError(f"{crate}/src/{file} has no public function {function}")

@@ -46,7 +46,7 @@ class Contract:
 
 
 def contracts(path: str) -> Iterator[Contract]:
-    """The contracts of a file: of each function the lines from its first clause to the brace that opens its body."""
+    """The contracts of a file: of each function the lines from its first clause to the brace that opens its body, without comments."""
     name, indent, clauses = "", "", -1
     for line in text_of(path).splitlines():
         head = HEAD.match(line)
@@ -57,5 +57,5 @@ def contracts(path: str) -> Iterator[Contract]:
         if clauses >= 0 and line.rstrip() in (indent + "{", indent + "{}", indent + "}"):
             yield Contract(path, name, clauses)
             name, clauses = "", -1
-        elif clauses >= 0:
+        elif clauses >= 0 and not line.lstrip().startswith("//"):
             clauses += 1

@@ -1,10 +1,21 @@
-"""Holds docs/PROMISES.md against the code.
+"""Makes docs/PROMISES.md from the comments above the clauses, and holds it against the code.
 
     tools/promises.py           checks the page; the last line is 'N passed, M failed'
+    tools/promises.py --write   writes the page
     tools/promises.py --list    prints each public call with the names of its clauses
 
-The page has a section for each crate, with a heading '## `crate`', and rows of three cells: a promise, the functions that keep it,
-and the clauses that say it. Checked is that
+The page begins as promises_page.md beside this file, which is written by hand. It has a section for each crate, with a heading '## `crate`',
+and rows of three cells in the place of '{rows}': a promise, the functions that keep it, and the clauses that state it. A row is a comment in
+a contract, or above a function without a clause of its own:
+
+    // Promise: what is promised, in as many lines as it needs
+    // - of `the_function`, `another_function`
+    // - by `the_clause` (`ADefinition`), `another_clause`
+    ensures the_clause { .. }
+
+Without '- of' it is of the function that it is in. Without '- by' it is by the clause that it is above. The rows of a crate are in the order
+of the modules in its lib.rt, and within a module in the order of the text. Checked is that
+- the page is what would be written;
 - each function that a row names is a public call of that crate;
 - each name in a row's last cell is that of a clause of one of these functions, a word of their contracts, or a word of the
   definitions that these contracts reach;
@@ -16,12 +27,13 @@ import os
 import re
 import sys
 
-from shadowtools.command import as_command
+from shadowtools.command import Refused, as_command
 from shadowtools.formats.definitions import Library
 from shadowtools.places import TOP
 
 CRATES = os.path.join(TOP, "crates")
 PAGE = os.path.join(TOP, "docs", "PROMISES.md")
+HEAD = os.path.join(os.path.dirname(os.path.abspath(__file__)), "promises_page.md")
 NAME = r"[A-Za-z_][A-Za-z0-9_]*"
 MOST_WORDS = 40
 
@@ -55,45 +67,68 @@ def exports(crate):
 
 
 def contract_from(lines, at):
-    """The text of a function from its first line to the beginning of its body or its end."""
+    """The text of a function from its first line to the beginning of its body or its end, without comments."""
     indent = re.match(r" *", lines[at]).group()
     taken = [lines[at]]
     if re.search(r"\{\}?\s*$", taken[0]):
         return taken[0]
-    while not re.sub(r"//.*", "", taken[-1]).rstrip().endswith(";") and not re.match(rf"{indent}\{{", taken[-1]) and at + 1 < len(lines):
+    while not taken[-1].endswith(";") and not re.match(rf"{indent}\{{", taken[-1]) and at + 1 < len(lines):
         at += 1
-        taken.append(lines[at])
+        taken.append(re.sub(r"//.*", "", lines[at]).rstrip())
     return "\n".join(taken)
 
 
-def calls_of(crate):
-    """The public calls of a crate, each with the names of its clauses and the words of its contract, and the contract with the text of its file.
-    A call of a type also has the contracts of the traits that the type meets."""
-    names, public = exports(crate)
-    found, of_traits = {}, {}
+class Call:
+    """A public call of a crate: its name, the contract, and the text of its file, where it begins at a line."""
+
+    def __init__(self, name, lines, at, path):
+        self.name, self.at, self.path = name, at, path
+        self.contract = contract_from(lines, at)
+        self.whole = "\n".join(lines)
+
+    def is_at(self, path, at):
+        """Whether a line of a file is in the contract of this call."""
+        return path == self.path and self.at <= at <= self.at + self.contract.count("\n")
+
+
+def sources_of(crate):
+    """The files of a crate with their modules, in the order of the modules in its lib.rt."""
     folder = os.path.join(CRATES, crate, "src")
-    files = [os.path.join(at, it) for at, _, all_of in os.walk(folder) for it in all_of if it.endswith(".rt")]
-    for path in sorted(files):
-        module = os.path.relpath(path, folder)[:-3].split(os.sep)[0]
-        owner = None
-        whole = text_of(path)
-        lines = whole.splitlines()
+    order = re.findall(rf"^(?:pub )?mod ({NAME});", text_of(os.path.join(folder, "lib.rt")), re.M)
+    paths = [os.path.join(at, it) for at, _, all_of in os.walk(folder) for it in all_of if it.endswith(".rt")]
+    found = [(os.path.relpath(it, folder)[:-3].split(os.sep)[0], it) for it in paths]
+    return sorted(found, key=lambda it: (order.index(it[0]) if it[0] in order else -1, it[1]))
+
+
+def owner_of(line):
+    """The name of the trait or type that a block is of, the type that meets a trait in it, and whether it is a trait."""
+    block = re.match(r"(?:pub )?(?:unsafe )?(impl|trait)\b(.*)", line)
+    if not block:
+        return None, None, False
+    head = block.group(2)
+    for _ in range(3):
+        head = re.sub(r"<[^<>]*>", "", head)
+    if block.group(1) == "trait":
+        return re.match(rf"\s*({NAME})", head).group(1), None, True
+    met = re.search(rf" for (?:&mut )?({NAME})", f" {head} ")
+    return (None, met.group(1), False) if met else ((re.search(NAME, head) or [None])[0], None, False)
+
+
+def public_calls(crate):
+    """The public calls of a crate, and for a type the contracts of the traits that it meets, with the text of their file."""
+    names, public = exports(crate)
+    found, of_traits = [], {}
+    for module, path in sources_of(crate):
+        owner, in_trait = None, False
+        lines = text_of(path).splitlines()
         for at, line in enumerate(lines):
-            block = re.match(r"(?:pub )?(?:unsafe )?(impl|trait)\b(.*)", line)
-            if block:
-                head = re.sub(r"<[^<>]*>", "", re.sub(r"<[^<>]*>", "", re.sub(r"<[^<>]*>", "", block.group(2))))
-                if block.group(1) == "trait":
-                    owner = re.match(rf"\s*({NAME})", head).group(1)
-                    in_trait = True
-                else:
-                    met = re.search(rf" for (?:&mut )?({NAME})", f" {head} ")
-                    owner = None if met else (re.search(NAME, head) or [None])[0]
-                    in_trait = False
-                    if met and met.group(1) in names:
-                        end = next(it for it in range(at, len(lines)) if lines[it].startswith("}"))
-                        texts = [contract_from(lines, it) for it in range(at, end) if re.match(r"\s+fn ", lines[it])]
-                        of_traits.setdefault(met.group(1), []).append(("\n".join(texts), whole))
-            elif re.match(r"\}", line):
+            if re.match(r"(?:pub )?(?:unsafe )?(impl|trait)\b", line):
+                owner, met, in_trait = owner_of(line)
+                if met in names:
+                    end = next(it for it in range(at, len(lines)) if lines[it].startswith("}"))
+                    texts = [contract_from(lines, it) for it in range(at, end) if re.match(r"\s+fn ", lines[it])]
+                    of_traits.setdefault(met, []).append(("\n".join(texts), "\n".join(lines)))
+            elif line.startswith("}"):
                 owner = None
             call = re.match(rf"(\s*)(pub )?(?:const )?(?:unsafe )?fn ({NAME})", line)
             if not call:
@@ -105,12 +140,71 @@ def calls_of(crate):
                 is_public = owner in names and (call.group(2) or in_trait)
                 name = f"{owner}::{call.group(3)}"
             if is_public:
-                text = contract_from(lines, at)
-                clauses = re.findall(rf"ensures ({NAME})", text)
-                found[name] = (clauses, set(re.findall(NAME, text)), [(text, whole)])
-    for name, (_, _, texts) in found.items():
-        texts += of_traits.get(name.split("::")[0], [])
+                found.append(Call(name, lines, at, path))
+    return found, of_traits
+
+
+def calls_of(crate):
+    """The public calls of a crate, each with the names of its clauses and the words of its contract, and the contract with the text of its file.
+    A call of a type also has the contracts of the traits that the type meets."""
+    calls, of_traits = public_calls(crate)
+    found = {}
+    for it in calls:
+        texts = [(it.contract, it.whole), *of_traits.get(it.name.split("::")[0], [])]
+        found[it.name] = (re.findall(rf"ensures ({NAME})", it.contract), set(re.findall(NAME, it.contract)), texts)
     return found
+
+
+def blocks_of(lines):
+    """The promises of a file: of each its three parts, as they are written, and the number of the line below it."""
+    part, parts, found = None, {}, []
+    for at, line in enumerate([*lines, ""]):
+        comment = re.match(r"\s*// ?(.*)", line)
+        text = comment.group(1).strip() if comment and not line.strip().startswith("///") else None
+        begins = re.match(r"(Promise:|- of|- by) (.*)", text or "")
+        if parts and (text is None or begins and begins.group(1) == "Promise:"):
+            found.append((parts, at))
+            part, parts = None, {}
+        if begins and (parts or begins.group(1) == "Promise:"):
+            part = begins.group(1)
+            parts[part] = begins.group(2)
+        elif part and text is not None:
+            parts[part] += " " + text
+    below = {}
+    for at in range(len(lines) - 1, -1, -1):
+        below[at] = below.get(at + 1, at) if lines[at].strip().startswith("//") else at
+    return [(parts, below.get(at, at)) for parts, at in found]
+
+
+def rows_of_code(crate):
+    """The rows of a crate's section, as lines of a table."""
+    calls, _ = public_calls(crate)
+    rows = []
+    for _, path in sources_of(crate):
+        lines = text_of(path).splitlines()
+        for parts, at in blocks_of(lines):
+            name = next((it.name for it in calls if it.is_at(path, at)), None)
+            clause = re.match(rf"\s*(ensures|requires)(?: ({NAME}))?", lines[at]) if at < len(lines) else None
+            by = "" if not clause else f"`{clause.group(2)}`" if clause.group(2) else "the clause"
+            if not parts.get("- of", name) or not parts.get("- by", by):
+                raise Refused(f"{os.path.relpath(path, TOP)}: line {at + 1} has a promise of no public call, or by no clause")
+            rows.append(f"| {parts['Promise:']} | {parts.get('- of', f'`{name}`')} | {parts.get('- by', by)} |")
+    return rows
+
+
+def page_of_code():
+    """The page as it is to be: the text by hand with the rows of each crate, and each promise that has no section."""
+    lines, crate, shown = [], None, set()
+    for line in text_of(HEAD).splitlines():
+        heading = re.match(r"## (?:.*?`([a-z0-9_]+)`)?", line)
+        crate = heading.group(1) if heading else crate
+        if line == "{rows}":
+            lines += rows_of_code(crate)
+            shown.add(crate)
+        else:
+            lines.append(line)
+    without = [it for it in libraries() if it not in shown and rows_of_code(it)]
+    return "\n".join(lines) + "\n", [f"{it} has promises, and the page no section for them" for it in without]
 
 
 def words_reached(library, crate, calls):
@@ -182,8 +276,14 @@ def main(words):
             for name in calls[crate]:
                 print(f"  {name}: {', '.join(calls[crate][name][0]) or '-'}")
         return 0
+    page, faults = page_of_code()
+    if "--write" in words:
+        with open(PAGE, "w", encoding="utf-8") as file:
+            file.write(page)
+    elif page != text_of(PAGE):
+        faults.append("docs/PROMISES.md is not what the comments have: tools/promises.py --write makes it")
     library, passed, with_row = Library(), 0, {it: set() for it in calls}
-    faults = long_sentences(text_of(PAGE))
+    faults += long_sentences(page)
     for number, crate, functions, clauses in rows_of_page():
         if crate not in calls:
             faults.append(f"line {number}: there is no library `{crate}`")
