@@ -5,7 +5,7 @@ ghost use Rattle.bank_tables.specs.Tables.{size};
 ghost use Rattle.form_model.specs.Validity.{IsBudget};
 ghost use Rattle.series_model.specs.Series.{IsSeriesProblem, weight_of};
 ghost use Rattle.series_check.specs.Cuts.{problem_of};
-ghost use Rattle.series_outcome.specs.Assemblies.{IsShown, IsTrueOutcome, IsDecided, IsBestForm};
+ghost use Rattle.series_outcome.specs.Assemblies.{IsShown, IsTrueOutcome, IsDecided, IsBestForm, KeepsSeries};
 ghost use Rattle.form_series.specs.Orders.{IsInOrder};
 ghost use Rattle.form_series.specs.SeriesBounds.{IsBoundOf};
 
@@ -14,7 +14,7 @@ use crate::order::in_order;
 use bank_tables::{Bank, ItemSet, List};
 use constraint_model::Spec;
 use series_check::Setting;
-use series_outcome::{Series, SeriesOutcome, outcome_shown, search_fallback};
+use series_outcome::{Series, SeriesOutcome, known_series, outcome_shown, search_fallback};
 use series_search::{Kinds, Searched, search};
 use series_tree::{Memory, SeriesTree};
 use std::alloc::Global;
@@ -51,7 +51,8 @@ fn is_enough(setting: &Setting, budget: u16) -> bool
 }
 
 /// What a search gave, if it passes every test and either decides or the budget is too small for a
-/// sure decision; else what the fallback search gives.
+/// sure decision; else what the fallback search gives, which begins with the forms of the search.
+/// They are not lost: what is given is no worse, if they are a series.
 fn tested(
     alloc: Global,
     setting: &Setting,
@@ -64,7 +65,9 @@ fn tested(
     ensures shown { IfOk result (λ s. IsShown (problem_of setting.now) s.tree budget s.outcome) }
     ensures decided { IfOk result (λ s. 2 ^ (setting.now.forms * size setting.now.bank.now + 1)
         ≤ budget + 1 → IsDecided s.outcome) }
+    ensures keeps { IfOk result (λ s. KeepsSeries (problem_of setting.now) forms s.outcome) }
 {
+    let known = known_series(setting, &forms);
     if let Some(tree) = tree {
         if let Some(outcome) = outcome_shown(setting, forms, &tree, budget) {
             if is_decided(&outcome) || !is_enough(setting, budget) {
@@ -72,7 +75,8 @@ fn tested(
             }
         }
     }
-    search_fallback(alloc, setting, budget)
+    let series = search_fallback(alloc, setting, known, budget)?;
+    Ok(series)
 }
 
 /// A search, its outcome with the forms in order, and the bound where the series is not proved

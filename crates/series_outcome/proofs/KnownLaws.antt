@@ -3,6 +3,9 @@ use Rattle.std.proofs.Common.{◌≡◌, ℕ, ◌≤◌, arith, Option, Some, No
 use Rattle.series_model.specs.Series.{SeriesProblem, Forms, IsSeries, IsValue}
 use Rattle.series_model.specs.SeriesVerdicts.{IsSettled}
 use Rattle.series_model.proofs.SeriesTreeLaws.{one_value}
+use Rattle.series_outcome.specs.declared.outcome.SeriesOutcome.{SeriesOutcome}
+use Rattle.series_outcome.specs.declared.outcome.SeriesOutcome.TheVariants.{Found, NoSeries, NoneFound}
+use Rattle.series_outcome.specs.Assemblies.{IsNoWorse}
 use Rattle.series_outcome.specs.Searches.{IsAsGood}
 
 pub as_good-refl : (B : Option ℕ) → IsAsGood B B
@@ -33,3 +36,16 @@ settled_value Q S u v is low = λ V series value. let same : V ≡ v = one_value
 pub settled_by : (Q : SeriesProblem) (S : Forms) (U : Option ℕ) (v : ℕ) → IsValue Q S v → IsAsGood (Some v) U → IsSettled Q U S
 settled_by Q S None v is as_good = absurd as_good
 settled_by Q S (Some u) v is as_good = settled_value Q S u v is as_good
+
+-- an outcome that is no worse than a value is no worse than a lesser one
+pub no_worse-trans : (Q : SeriesProblem) (B C : Option ℕ) (outcome : SeriesOutcome) → IsAsGood B C → IsNoWorse Q C outcome → IsNoWorse Q B outcome
+no_worse-trans Q None C outcome a b = tt
+no_worse-trans Q (Some x) None outcome a b = absurd a
+no_worse-trans Q (Some x) (Some y) (Found forms proved) a (U, is, more) = (U, is, omega arith)
+no_worse-trans Q (Some x) (Some y) NoSeries a b = b
+no_worse-trans Q (Some x) (Some y) NoneFound a b = b
+
+-- a series whose value is settled has a value that is known to be no less
+pub settled_good : (Q : SeriesProblem) (S : Forms) (U : Option ℕ) (V : ℕ) → IsSettled Q U S → IsSeries Q S → IsValue Q S V → IsAsGood (Some V) U
+settled_good Q S None V settled series value = settled series
+settled_good Q S (Some u) V settled series value = settled V series value

@@ -1,5 +1,5 @@
 -- The first sets of an array, as a list of forms.
-use Rattle.std.proofs.Common.{◌≡◌, ℕ, ◌<◌, ◌≤◌, List, [], length, take, get_or, sym, ap, ◌∙◌, subst}
+use Rattle.std.proofs.Common.{◌≡◌, ℕ, zero, suc, ◌<◌, ◌≤◌, arith, List, [], ◌∷◌, length, take, get_or, sym, ap, ◌∙◌, subst}
 use Rattle.std.proofs.lemmas.List.{get_or-take, length-take-le}
 use Rattle.bank_tables.specs.Items.{Set, has}
 use Rattle.form_model.specs.Forms.{Meets}
@@ -30,3 +30,16 @@ taken_forms Q sets xs is f w = ap (λ (ws : List ℕ). has ws) (sym (get_or-take
 
 pub taken_list : (Q : SeriesProblem) (sets xs : List (List ℕ)) → xs ≡ take Q.forms sets → Q.forms ≤ length sets → IsSeries Q (forms_of sets) → IsSeriesList Q xs
 taken_list Q sets xs is enough series = record { number = ap (λ (ys : List (List ℕ)). length ys) is ∙ length-take-le Q.forms sets enough; series = same_series Q (forms_of sets) (forms_of xs) (taken_forms Q sets xs is) series }
+
+-- four sets that are those of a list as far as it goes are the same forms
+pub listed_forms : (Q : SeriesProblem) (sets : List (List ℕ)) (a b c d : List ℕ) → length sets ≡ Q.forms → Q.forms ≤ 4
+    → (0 < length sets → a ≡ get_or sets 0 [])
+    → (1 < length sets → b ≡ get_or sets 1 [])
+    → (2 < length sets → c ≡ get_or sets 2 [])
+    → (3 < length sets → d ≡ get_or sets 3 [])
+    → SameForms Q (forms_of sets) (forms_of (a ∷ b ∷ c ∷ d ∷ []))
+listed_forms Q sets a b c d number few first second third fourth zero within = ap (λ (ws : List ℕ). has ws) (sym (first (omega arith)))
+listed_forms Q sets a b c d number few first second third fourth (suc zero) within = ap (λ (ws : List ℕ). has ws) (sym (second (omega arith)))
+listed_forms Q sets a b c d number few first second third fourth (suc (suc zero)) within = ap (λ (ws : List ℕ). has ws) (sym (third (omega arith)))
+listed_forms Q sets a b c d number few first second third fourth (suc (suc (suc zero))) within = ap (λ (ws : List ℕ). has ws) (sym (fourth (omega arith)))
+listed_forms Q sets a b c d number few first second third fourth (suc (suc (suc (suc f)))) within = absurd (omega arith)

@@ -1,5 +1,5 @@
 -- The outcome of an assembly of a form series, and the tree that shows it.
-use Rattle.std.specs.Prelude.{◌≡◌, ℕ, true, false, List, Option, Some, None}
+use Rattle.std.specs.Prelude.{◌≡◌, ℕ, ◌≤◌, true, false, List, Option, Some, None}
 use Rattle.form_model.specs.Forms.{Best, objective}
 use Rattle.form_model.specs.Problem.{whole}
 use Rattle.series_model.specs.declared.verdict.SeriesVerdict.TheVariants.{Optimal, Partial}
@@ -32,6 +32,18 @@ IsTrueOutcome Q (Found forms true) = IsSeriesList Q forms × BestSeries Q (forms
 IsTrueOutcome Q (Found forms false) = IsSeriesList Q forms
 IsTrueOutcome Q NoSeries = HasNoSeries Q
 IsTrueOutcome Q NoneFound = Unit {0}
+
+-- the outcome is no worse than a value, where there is one: it is a series of at least that value
+abbrev pub IsNoWorse : SeriesProblem → Option ℕ → SeriesOutcome → Type 0
+IsNoWorse Q None outcome = Unit {0}
+IsNoWorse Q (Some V) (Found forms proved) = (U : ℕ) × IsValue Q (forms_of forms) U × (V ≤ U)
+IsNoWorse Q (Some V) outcome = ⊥
+
+-- the outcome is no worse than the sets given, where there are some and they are a series
+abbrev pub KeepsSeries : SeriesProblem → Option (List (List ℕ)) → SeriesOutcome → Type 0
+KeepsSeries Q None outcome = Unit {0}
+KeepsSeries Q (Some sets) outcome = (V : ℕ) → IsSeriesList Q sets → IsValue Q (forms_of sets) V
+    → IsNoWorse Q (Some V) outcome
 
 -- the search went to its end
 abbrev pub IsDecided : SeriesOutcome → Type 0

@@ -4,7 +4,7 @@ use Rattle.std.specs.Option.{option_map}
 use Rattle.bank_tables.specs.Sums.{sum_in}
 use Rattle.form_model.specs.Forms.{size_in}
 use Rattle.series_model.specs.declared.node.SeriesNode.{SeriesNode}
-use Rattle.series_model.specs.Series.{SeriesProblem, IsSeries, IsValue, forms_of}
+use Rattle.series_model.specs.Series.{SeriesProblem, IsSeries, IsSeriesList, IsValue, forms_of}
 use Rattle.series_model.specs.SeriesPaths.{SeriesPath, is_free_in}
 use Rattle.series_model.specs.SeriesTrees.{Certificate}
 use Rattle.series_model.specs.SeriesVerdicts.{IsWholePath, IsSound, below, open_leaf}
@@ -35,6 +35,12 @@ abbrev pub IsAsGood : Option ℕ → Option ℕ → Type 0
 IsAsGood None second = Unit {0}
 IsAsGood (Some first) (Some second) = first ≤ second
 IsAsGood (Some first) None = ⊥
+
+-- where there are sets and they are a series, there is a value that is no less
+abbrev pub IsAsGoodAs : SeriesProblem → Option (List (List ℕ)) → Option ℕ → Type 0
+IsAsGoodAs Q None second = Unit {0}
+IsAsGoodAs Q (Some sets) second = (V : ℕ) → IsSeriesList Q sets → IsValue Q (forms_of sets) V
+    → IsAsGood (Some V) second
 
 -- the node suits the path, where no series with a value above U is sought, or no series at all: it
 -- is sound, as in a tree that spends its budget

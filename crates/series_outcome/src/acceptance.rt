@@ -1,11 +1,11 @@
 //! The tests that let in what a search gives.
 
-ghost use Rattle.std.specs.Prelude.{IfSome, None};
+ghost use Rattle.std.specs.Prelude.{IfSome, Some, None};
 ghost use Rattle.std.specs.Option.{option_copied};
 ghost use Rattle.series_model.specs.Series.{IsSeriesProblem};
 ghost use Rattle.series_model.specs.SeriesVerdicts.{IsSeriesVerdict};
 ghost use Rattle.series_check.specs.Cuts.{problem_of};
-ghost use Rattle.series_outcome.specs.Assemblies.{IsShown};
+ghost use Rattle.series_outcome.specs.Assemblies.{IsShown, KeepsSeries};
 
 use crate::outcome::SeriesOutcome;
 use crate::spending::is_spent;
@@ -38,7 +38,8 @@ fn shown_with(
     budget: u16,
 ) -> Option<SeriesOutcome>
     requires { IsSeriesProblem (problem_of setting.now) }
-    ensures { IfSome result (IsShown (problem_of setting.now) tree.now budget) }
+    ensures shown { IfSome result (IsShown (problem_of setting.now) tree.now budget) }
+    ensures keeps { IfSome result (KeepsSeries (problem_of setting.now) (Some forms)) }
 {
     match verdict(setting, Some(forms.as_slice()), tree) {
         SeriesVerdict::Optimal => Some(SeriesOutcome::Found {
@@ -85,7 +86,9 @@ pub fn outcome_shown(
     requires { IsSeriesProblem (problem_of setting.now) }
     // Promise: Forms and a tree are let in only where the checker's verdict on the tree is that of
     // the outcome; undecided, the tree spends the budget
-    ensures { IfSome result (IsShown (problem_of setting.now) tree.now budget) }
+    ensures shown { IfSome result (IsShown (problem_of setting.now) tree.now budget) }
+    // Promise: What is let in is no worse than the forms given, where they are a series
+    ensures keeps { IfSome result (KeepsSeries (problem_of setting.now) forms) }
 {
     match forms {
         Some(forms) => shown_with(setting, forms, tree, budget),

@@ -10,7 +10,7 @@ ghost use Rattle.series_model.specs.SeriesVerdicts.{IsFormBranch, IsWholePath, v
 ghost use Rattle.series_tree.specs.Shape.{open_leaves};
 ghost use Rattle.series_check.specs.Answers.{IsJudged};
 ghost use Rattle.series_check.specs.Cuts.{problem_of, path_of};
-ghost use Rattle.series_outcome.specs.Assemblies.{IsShown, IsDecided};
+ghost use Rattle.series_outcome.specs.Assemblies.{IsShown, IsDecided, IsNoWorse};
 ghost use Rattle.series_outcome.specs.Searches.{IsKnown, value_known, IsLeafOrNone, Adds};
 ghost use Rattle.series_outcome.specs.Spending.{IsSpent};
 
@@ -127,6 +127,7 @@ fn outcome_of(
     requires problem { IsSeriesProblem (problem_of setting.now) }
     requires known { IsKnown (problem_of setting.now) best }
     ensures decided { IfOk result (λ outcome. open_leaves nodes.now ≡ 0 → IsDecided outcome) }
+    ensures keeps { IfOk result (IsNoWorse (problem_of setting.now) (value_known best)) }
     ensures shown { IfOk result (λ outcome. (T : Certificate) (budget : ℕ)
         → IsJudged (problem_of setting.now) (value_known best) T
         (verdict_of (value_known best) (open_leaves nodes.now))
@@ -149,9 +150,16 @@ fn outcome_of(
 
 /// Searches depth first within a budget of nodes: at each node the Count leaf of the first
 /// impossible row, else a Whole leaf where no item is free, else a branch on the lowest free item
-/// of the first form that has one, or an Open leaf once the budget leaves no branch.
-pub fn search_fallback(alloc: Global, setting: &Setting, budget: u16) -> Result<Series, Memory>
+/// of the first form that has one, or an Open leaf once the budget leaves no branch. It begins with
+/// a series that is known, if one is, and gives none that is worse.
+pub fn search_fallback(
+    alloc: Global,
+    setting: &Setting,
+    known: Option<Known>,
+    budget: u16,
+) -> Result<Series, Memory>
     requires problem { IsSeriesProblem (problem_of setting.now) }
+    requires known { IsKnown (problem_of setting.now) known }
     requires budget { IsBudget budget }
     // Promise: The fallback search gives an outcome that its tree shows so, whatever the bank and
     // the plan; the only error is lack of memory
@@ -159,9 +167,12 @@ pub fn search_fallback(alloc: Global, setting: &Setting, budget: u16) -> Result<
     // Promise: With a budget of nodes for a branch on each item in each form, it decides
     ensures decided { IfOk result (λ s. 2 ^ (setting.now.forms * size setting.now.bank.now + 1)
         ≤ budget + 1 → IsDecided s.outcome) }
+    // Promise: If a series is known before it, its outcome is a series of at least that value
+    ensures keeps { IfOk result (λ s. IsNoWorse (problem_of setting.now) (value_known known)
+        s.outcome) }
 {
     let mut state = SearchState {
-        best: None,
+        best: known,
         branches: (budget - 1) / 2,
         nodes: Vec::new(alloc),
     };

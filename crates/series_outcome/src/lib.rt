@@ -15,5 +15,6 @@ mod spending;
 
 pub use acceptance::outcome_shown;
 pub use fallback::search_fallback;
+pub use known::{Known, known_series};
 pub use outcome::{Series, SeriesOutcome};
 pub use series_tree::Memory;
