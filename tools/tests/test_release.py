@@ -31,6 +31,7 @@ DEBIAN = "/usr/bin/python3"
 LIMIT = 300  # seconds for each wait
 FLIGHT = 160
 KIT = "a kit logic 0"
+UNITS = {"shadowd@.service": "serve", "shadowd-follow@.service": "follow", "shadowd-stream@.service": "stream"}
 # Crates of the kit beside which it has no licence: those that its makers wrote as its ground.
 WITHOUT_LICENCE = {"atomic_table", "core", "io", "json", "libc", "os", "std", "std_alloc", "std_collections", "std_heap", "std_io"}
 is_clone = os.path.exists(os.path.join(ROOT, ".git")) and shutil.which("git")
@@ -246,7 +247,7 @@ class Archive(Made):
                     found[os.path.relpath(os.path.join(here, name), top)] = sha256(file.read())
         found.pop("SHA256SUMS")
         self.assertEqual(listed, found)
-        for name in ("README.md", "docs/OPERATING.md", "man/shadowd.1", "service/shadowd@.service", "examples/first/bank.csv", "THIRD-PARTY",
+        for name in ("README.md", "docs/OPERATING.md", "man/shadowd.1", *(f"service/{name}" for name in UNITS), "examples/first/bank.csv", "THIRD-PARTY",
                      "examples/knowledge/knowledge.plan.txt", f"tools/shadowtools-{build().version}-py3-none-any.whl"):
             self.assertIn(name, found)
         self.assertEqual([name for name in found if "/tests/" in name], [])
@@ -380,10 +381,11 @@ class DebianPackage(Made):
         self.assertIn("./usr/share/doc/shadowd/copyright", listed)
         said_by("dpkg-deb", "--raw-extract", self.package, self.path("raw"))
         self.assertEqual(self.read("raw/DEBIAN/conffiles"), "/etc/default/shadowd\n")
-        unit = self.read("raw/lib/systemd/system/shadowd@.service")
-        self.assertIn("\nExecStart=/usr/bin/shadowd serve ", unit)
-        self.assertNotIn("/usr/local", unit)
-        self.assertIn("\nEnvironmentFile=-/etc/default/shadowd\n", unit)
+        for name, command in UNITS.items():
+            unit = self.read(f"raw/lib/systemd/system/{name}")
+            self.assertIn(f"\nExecStart=/usr/bin/shadowd {command} ", unit)
+            self.assertNotIn("/usr/local", unit)
+            self.assertIn("\nEnvironmentFile=-/etc/default/shadowd\n", unit)
         for name in ("postinst", "prerm", "postrm"):
             self.assertEqual(said_by("sh", "-n", self.path(f"raw/DEBIAN/{name}")).returncode, 0)
         with gzip.open(self.path("raw/usr/share/man/man1/shadowd.1.gz"), "rt", encoding="utf-8") as file:
@@ -412,7 +414,7 @@ exec chroot {self.folder}/root /bin/sh -e -c '{INSTALL}'
             "asked daemon-reload, ", "shadowd:shadowd 700", "root:shadowd 750", "/usr/sbin/nologin", f"shadowd {version}",
             "shadowd:shadowd 600 9", "the same user",
             "asked daemon-reload, daemon-reload, ", "# mine",  # an upgrade stops no server
-            "asked stop shadowd@*.service, daemon-reload, ", "removed", "# mine", "shadowd:shadowd 600 9",
+            "asked stop shadowd@*.service shadowd-stream@*.service shadowd-follow@*.service, daemon-reload, ", "removed", "# mine", "shadowd:shadowd 600 9",
             "purged", "shadowd:shadowd 600 9", "the same user"])
 
 

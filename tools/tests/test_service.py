@@ -348,5 +348,38 @@ class Lines(Service):
         self.assertEqual(self.asked(port)[1]["room"], 33)
 
 
+class Units(Folder):
+    """The units of systemd: the server's, the follower's and the stream's."""
+
+    UNITS = {"shadowd": "serve", "shadowd-follow": "follow", "shadowd-stream": "stream"}
+
+    def unit(self, name):
+        with open(os.path.join(ROOT, "examples", "service", name + "@.service"), encoding="utf-8") as file:
+            return file.read()
+
+    def test_what_they_run(self):
+        """Each runs a command of the program over the one layout, and they have the same walls."""
+        walls = []
+        for name, command in self.UNITS.items():
+            unit = self.unit(name)
+            self.assertEqual(re.findall(r"(?m)^ExecStart=(.*)$", unit),
+                             [f"/usr/local/bin/shadowd {command} /etc/shadowd/%i/bank.csv /etc/shadowd/%i/plan.txt"])
+            self.assertIn("\nEnvironment=SHADOWD_JOURNAL=/var/lib/shadowd/%i/journal\n", unit)
+            walls.append(unit[unit.index("LimitNOFILE="):unit.index("[Install]")])
+        self.assertEqual(walls, walls[:1] * 3)
+        self.assertIn("\nEnvironment=SHADOWD_MAKE=no\n", self.unit("shadowd"))
+        for name in ("shadowd-follow", "shadowd-stream"):  # the first fault of a link ends a follower
+            self.assertIn("\nRestart=always\n", self.unit(name))
+
+    def test_systemd_takes_them(self):
+        if shutil.which("systemd-analyze") is None:
+            self.skipTest("needs systemd-analyze")
+        for name in self.UNITS:
+            self.write(name + "@.service", self.unit(name).replace("/usr/local/bin/shadowd", "/bin/true"))
+        for name in self.UNITS:
+            done = subprocess.run(["systemd-analyze", "verify", self.path(name + "@spring.service")], capture_output=True, text=True, timeout=LIMIT, check=False)
+            self.assertEqual((done.returncode, done.stderr), (0, ""), name)
+
+
 if __name__ == "__main__":
     unittest.main()

@@ -19,7 +19,8 @@ DEBIAN_PYTHON = "/usr/bin/python3"
 VERSION = re.compile(r'^pub const VERSION: &str = "(\d+\.\d+\.\d+)";$', re.M)
 PAGES = ("README.md", "CHANGELOG.md", "docs")
 APPEAL = "tools/shadowtools/page/appeal.js"
-# Files of examples/ that only a copy of the repository can run, and the unit, which has a folder of its own.
+UNITS = "examples/service/"
+# Files of examples/ that only a copy of the repository can run, and the units, which have a folder of their own.
 NO_EXAMPLE = re.compile(r"examples/(?:make\.sh|service/.*|.*/tests/.*|.*/run_tests\.py)")
 
 
@@ -124,11 +125,17 @@ def examples(build: Build) -> List[Entry]:
     return first + [entry for entry in build.files if entry.path.startswith("examples/") and not NO_EXAMPLE.fullmatch(entry.path)]
 
 
+def units(build: Build) -> List[Entry]:
+    """The units of systemd, by their names."""
+    return [dataclasses.replace(entry, path=entry.path[len(UNITS):]) for entry in build.files
+            if entry.path.startswith(UNITS) and entry.path.endswith(".service")]
+
+
 def archive_files(build: Build) -> List[Entry]:
     """The files of the archive, below its one folder."""
     found = [Entry("RELEASE.txt", release_text(build)), Entry("THIRD-PARTY", third_party(build)), Entry("bin/shadowd", build.program, 0o755),
              Entry("man/shadowd.1", build.file("docs/shadowd.1")),
-             Entry("service/shadowd@.service", build.file("examples/service/shadowd@.service")), *moved([wheel(build)], "tools")]
+             *moved(units(build), "service"), *moved([wheel(build)], "tools")]
     found += [Entry("tools/appeal.js", entry.data) for entry in build.files if entry.path == APPEAL]
     found += [entry for entry in build.files if entry.path.split("/")[0] in PAGES and entry.path != "docs/shadowd.1"]
     found += examples(build)

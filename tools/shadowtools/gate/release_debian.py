@@ -1,4 +1,5 @@
 """The Debian package of a release, made by dpkg-deb."""
+import dataclasses
 import os
 import shutil
 import subprocess
@@ -6,7 +7,7 @@ import tempfile
 from typing import List
 
 from shadowtools.command import Refused
-from shadowtools.gate.release_build import Build, examples, own_text, release_text, third_party
+from shadowtools.gate.release_build import Build, examples, own_text, release_text, third_party, units
 from shadowtools.gate.release_files import Entry, folder, gzip_of, laid_out, moved
 
 NEEDS = ("dpkg-deb", "dpkg-shlibdeps")
@@ -24,7 +25,7 @@ Priority: optional
 Description: server for computerized adaptive tests
  Each examinee gets a test that keeps every rule of a blueprint. Each item comes from
  a form that is proved best, or is marked unproved. The package has the program, its
- manual page, a unit of systemd and examples.
+ manual page, units of systemd and examples.
 """
 
 
@@ -34,9 +35,9 @@ def missing() -> List[str]:
 
 def files(build: Build) -> List[Entry]:
     """The files that the package installs."""
-    unit = build.text("examples/service/shadowd@.service").replace("/usr/local/bin/", "/usr/bin/")
+    own = [dataclasses.replace(unit, data=unit.data.replace(b"/usr/local/bin/", b"/usr/bin/")) for unit in units(build)]
     pages = "usr/share/doc/shadowd"
-    return [Entry("usr/bin/shadowd", build.program, 0o755), Entry("lib/systemd/system/shadowd@.service", unit.encode()),
+    return [Entry("usr/bin/shadowd", build.program, 0o755), *moved(own, "lib/systemd/system"),
             Entry("usr/share/man/man1/shadowd.1.gz", gzip_of(build.file("docs/shadowd.1"))), Entry(SETTINGS, own_text("release_settings.txt").encode()),
             folder("etc/shadowd", 0o750), folder("var/lib/shadowd", 0o700),
             Entry(f"{pages}/copyright", own_text("release_copyright.txt").format(version=build.version).encode()),
