@@ -134,6 +134,20 @@ class Links(unittest.TestCase):
         self.assertEqual(len(list(broken_links(path, text))), 2)
 
 
+def other_layouts(text):
+    """The words of a page's commands that are not of the layout of the archive and the package. The image has one of its own, and its lines are left out."""
+    lines = [line for line in text.splitlines() if "podman" not in line and "4710 -g" not in line]
+    wrong = r"shadowd (?:serve|audit|replay|migrate|ship|follow|stream) bank\.csv|\bspring\.journal|\bexam\.journal|systemctl [a-z -]*shadowd(?![@-])|SHADOWD_JOURNAL=/var/lib/shadowd/(?!spring/journal)"
+    return [found for line in lines for found in re.findall(wrong, line)]
+
+
+class Layout(unittest.TestCase):
+    def test_the_commands_of_operating_have_one_layout(self):
+        self.assertEqual(other_layouts(text_of(os.path.join(ROOT, "docs", "OPERATING.md"))), [])
+        for line in ("shadowd serve bank.csv plan.txt", "cp spring.journal x", "systemctl stop shadowd", "systemctl enable --now shadowd", "SHADOWD_JOURNAL=/var/lib/shadowd/journal"):
+            self.assertEqual(len(other_layouts(line)), 1, line)
+
+
 class Sizes(unittest.TestCase):
     def test_the_readme_is_a_door(self):
         """At most 90 lines, 900 words and 100 columns, as a reader sees it: without the targets of links."""

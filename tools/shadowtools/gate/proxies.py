@@ -2,12 +2,13 @@
 
 usage: proxies.py PROGRAM [--clients 60 200] [--only nginx haproxy]
 
-The set-ups are those of the page, between its ``` lines, without TLS and with other ports and folders. A proxy that is not installed is
-named and passed over. Each client keeps its connection to the proxy open; the server has a token, which each request has. Then syncs of the disk fail for a while:
+The set-ups are those of the page, between its ``` lines, without TLS and with other ports and folders, and 127.0.0.1 as the address that nginx is open
+to: it has to refuse 127.0.0.2. A proxy that is not installed is named and passed over. Each client keeps its connection to the proxy open; the server has a token, which each request has. Then syncs of the disk fail for a while:
 HAProxy takes the server out, and has to put it in again by its probes alone, since it sends nothing else (this needs strace). The status is 1 if a request had no reply
 of the server, or none within the limit, or if the server did not come back.
 """
 import argparse
+import http.client
 import os
 import re
 import shutil
@@ -43,6 +44,7 @@ def free_port():
 
 def nginx(folder, port, server):
     text = set_up("nginx").replace("127.0.0.1:4710", f"127.0.0.1:{server}").replace("listen 443 ssl;", f"listen 127.0.0.1:{port};")
+    text = text.replace("allow 10.0.0.10;", "allow 127.0.0.1;")
     text = "".join(line for line in text.splitlines(True) if "ssl_certificate" not in line)
     paths = "".join(f"{kind}_temp_path {folder}/{kind};\n" for kind in ("client_body", "proxy", "fastcgi", "uwsgi", "scgi"))
     whole = (f"daemon off; pid {folder}/pid; error_log {folder}/errors; worker_processes 2;\nevents {{ worker_connections 1024; }}\n"
@@ -105,6 +107,16 @@ class Client(threading.Thread):
             self.fault = repr(fault)
 
 
+def refused_elsewhere(port):
+    """One line on what nginx answers to an address that it is not open to; whether that is 403."""
+    connection = http.client.HTTPConnection("127.0.0.1", port, LIMIT, source_address=("127.0.0.2", 0))
+    connection.request("GET", "/health")
+    status = connection.getresponse().status
+    connection.close()
+    print(f"nginx: {status} for an address that is not allowed", flush=True)
+    return status == 403
+
+
 def sessions(port, count, bookings):
     """So many clients at the same moment: their times, and the first fault."""
     gate = threading.Barrier(count)
@@ -134,6 +146,7 @@ def tried(name, program, counts):
         process, bookings, well = None, iter(range(10**6)), True
         try:
             process, port = start(name, folder, server.address[1])
+            well = name != "nginx" or refused_elsewhere(port)
             for count in counts:
                 times, faults = sessions(port, count, bookings)
                 well = well and not faults
