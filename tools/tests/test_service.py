@@ -348,6 +348,37 @@ class Lines(Service):
         self.assertEqual(self.asked(port)[1]["room"], 33)
 
 
+@needs_program
+class Backups(Service):
+    """The commands by which OPERATING tests a copy of the journal."""
+
+    def commands(self, port):
+        """The lines of the page, over the files and the server of this test."""
+        with open(os.path.join(ROOT, "docs", "OPERATING.md"), encoding="utf-8") as page:
+            text = re.search(r"(?s)## Backup of the journal\n.*?^```\n(.*?)^```$", page.read(), re.M).group(1)
+        for path, other in (("/backup/", self.folder + "/"), ("/var/lib/shadowd/spring/journal", self.path("journal")), ("127.0.0.1:4710", f"127.0.0.1:{port}"),
+                            ("/etc/shadowd/spring/bank.csv", FILES[0]), ("/etc/shadowd/spring/plan.txt", FILES[1])):
+            self.assertIn(path, text)
+            text = text.replace(path, other)
+        return text
+
+    def test_only_a_whole_copy_is_good(self):
+        """Not none, an empty one, one that is shorter than a header, or one that was cut; and none where no server answers."""
+        if shutil.which("curl") is None or shutil.which("bash") is None:
+            self.skipTest("needs curl and bash")
+        os.mkdir(self.path("bin"))
+        os.symlink(PROGRAM, self.path("bin/shadowd"))
+        port = self.start()
+        self.assertEqual([self.begun(port, booking) for booking in (70, 71)], [201, 201])
+        text, copied = self.commands(port), "&& sync $COPY\n"
+        self.assertIn(copied, text)
+        for change, good in (("true", True), ("rm $COPY", False), (": > $COPY", False), ("truncate -s 8 $COPY", False), ("truncate -s 9 $COPY", False),
+                             ("truncate -s -1 $COPY", False), ("truncate -s -20 $COPY", False), ("BEFORE=", False)):
+            done = subprocess.run(["bash", "-c", text.replace(copied, f"{copied}{change}\n")], env=dict(os.environ, PATH=self.path("bin") + os.pathsep + os.environ["PATH"]),
+                                  capture_output=True, text=True, timeout=LIMIT, check=False)
+            self.assertRegex(done.stdout, r"is good: 4 entries\n\Z" if good else r"IS NO BACKUP\n\Z", change)
+
+
 class Units(Folder):
     """The units of systemd: the server's, the follower's and the stream's."""
 
