@@ -350,33 +350,61 @@ class Lines(Service):
 
 @needs_program
 class Backups(Service):
-    """The commands by which OPERATING tests a copy of the journal."""
+    """The commands by which OPERATING tests a copy of the journal, and restores one."""
 
-    def commands(self, port):
-        """The lines of the page, over the files and the server of this test."""
+    def setUp(self):
+        super().setUp()
+        if shutil.which("curl") is None or shutil.which("bash") is None:
+            self.skipTest("needs curl and bash")
+        os.mkdir(self.path("bin"))
+        os.symlink(PROGRAM, self.path("bin/shadowd"))
+
+    def commands(self, pattern, port):
+        """Lines of the page, over the files and the server of this test."""
         with open(os.path.join(ROOT, "docs", "OPERATING.md"), encoding="utf-8") as page:
-            text = re.search(r"(?s)## Backup of the journal\n.*?^```\n(.*?)^```$", page.read(), re.M).group(1)
-        for path, other in (("/backup/", self.folder + "/"), ("/var/lib/shadowd/spring/journal", self.path("journal")), ("127.0.0.1:4710", f"127.0.0.1:{port}"),
+            text = re.search(pattern, page.read(), re.M | re.S).group(1)
+        for path, other in (("/backup/", self.folder + "/"), ("/var/lib/shadowd/spring", self.folder), ("127.0.0.1:4710", f"127.0.0.1:{port}"),
                             ("/etc/shadowd/spring/bank.csv", FILES[0]), ("/etc/shadowd/spring/plan.txt", FILES[1])):
             self.assertIn(path, text)
             text = text.replace(path, other)
         return text
 
+    def run_text(self, text):
+        path = self.path("bin") + os.pathsep + os.environ["PATH"]
+        return subprocess.run(["bash", "-c", text], env=dict(os.environ, PATH=path), capture_output=True, text=True, timeout=LIMIT, check=False)
+
     def test_only_a_whole_copy_is_good(self):
         """Not none, an empty one, one that is shorter than a header, or one that was cut; and none where no server answers."""
-        if shutil.which("curl") is None or shutil.which("bash") is None:
-            self.skipTest("needs curl and bash")
-        os.mkdir(self.path("bin"))
-        os.symlink(PROGRAM, self.path("bin/shadowd"))
         port = self.start()
         self.assertEqual([self.begun(port, booking) for booking in (70, 71)], [201, 201])
-        text, copied = self.commands(port), "&& sync $COPY\n"
+        text, copied = self.commands(r"^## Backup of the journal\n.*?^```\n(.*?)^```$", port), "&& sync $COPY\n"
         self.assertIn(copied, text)
         for change, good in (("true", True), ("rm $COPY", False), (": > $COPY", False), ("truncate -s 8 $COPY", False), ("truncate -s 9 $COPY", False),
                              ("truncate -s -1 $COPY", False), ("truncate -s -20 $COPY", False), ("BEFORE=", False)):
-            done = subprocess.run(["bash", "-c", text.replace(copied, f"{copied}{change}\n")], env=dict(os.environ, PATH=self.path("bin") + os.pathsep + os.environ["PATH"]),
-                                  capture_output=True, text=True, timeout=LIMIT, check=False)
+            done = self.run_text(text.replace(copied, f"{copied}{change}\n"))
             self.assertRegex(done.stdout, r"is good: 4 entries\n\Z" if good else r"IS NO BACKUP\n\Z", change)
+
+    def test_a_restore(self):
+        """The old file is kept, the copy is in its place with its mode, and the server is asked to stop before and to start after."""
+        port = self.start()
+        self.assertEqual(self.begun(port, 70), 201)
+        shutil.copy(self.path("journal"), self.path("spring.20261202-090000.journal"))
+        self.assertEqual(self.begun(port, 71), 201)
+        self.stop(self.server)
+        for name in ("systemctl", "journalctl"):
+            self.write("bin/" + name, f'#!/bin/sh\necho "{name} $1, $(stat -c %s {self.path("journal")})" >> {self.path("asked")}\n')
+            os.chmod(self.path("bin/" + name), 0o755)
+        before = os.path.getsize(self.path("journal"))
+        text = self.commands(r"^### Restore\n(.*?)^5\. ", port)
+        text = "".join(line.strip() + "\n" for line in text.splitlines() if line.startswith("       ")).replace("-o shadowd -g shadowd ", "")
+        done = self.run_text(text)
+        self.assertIn("\nentries 2 sessions 1 ", done.stdout, done.stderr)
+        after = os.path.getsize(self.path("spring.20261202-090000.journal"))
+        self.assertEqual(self.read("asked").splitlines()[:2], [f"systemctl stop, {before}", f"systemctl start, {after}"])
+        self.assertEqual(os.stat(self.path("journal")).st_mode & 0o777, 0o600)
+        kept = [name for name in os.listdir(self.folder) if name.startswith("journal.old-")]
+        self.assertEqual([os.path.getsize(self.path(name)) for name in kept], [before])
+        self.assertIn('"entries":2', self.whole(self.start(), "GET /health HTTP/1.1\r\n\r\n"))
 
 
 class Units(Folder):
