@@ -91,7 +91,7 @@ def main(words: Sequence[str]) -> int:
     with tempfile.TemporaryDirectory() as folder:
         points = points_of(folder, program)
         found = {name: column(folder, plan, points, examinees, program) for name, plan in PLANS.items()}
-    print("| Band of the estimate: visits, greatest rate | " + " | ".join(found) + " |")
+    print("| Band of the estimate: visits, greatest rate of them | " + " | ".join(found) + " |")
     print("|---|" + "---|" * len(found))
     for row in next(iter(found.values())):
         print(f"| {row} | " + " | ".join(told[row] for told in found.values()) + " |")

@@ -107,14 +107,18 @@ class ControlRoom:
 
     def ask_server(self):
         """Its health, and the exposure of each item, the greatest first."""
-        above, below = map(int, self.plan["rate"].split())
         try:
             health = self.server.health()
             finished, shown = self.server.exposure()
         except Away as away:
             return self.of_server.found({"fault": str(away), "health": None, "finished": None})
         counts = sorted(zip(self.names, shown), key=lambda row: (-row[1], self.names.index(row[0])))
-        return self.of_server.found({"fault": None, "health": health, "finished": finished, "counts": counts, "rate": above / below})
+        return self.of_server.found({"fault": None, "health": health, "finished": finished, "counts": counts, **self.rate()})
+
+    def rate(self):
+        """The rate of the plan, and that of the sessions. With bands a rate is of the visits of a band, and no share of the sessions is held against it."""
+        above, below = map(int, self.plan["rate"].split())
+        return {"rate": above / below, "rate_of_sessions": None if "bands" in self.plan else above / below}
 
     def audit(self):
         """What a copy of the journal has: the verdict of an audit, its numbers, and the sessions by state."""

@@ -17,7 +17,8 @@ shadow_bank(items, attributes = NULL, constraints = NULL, length = NULL,
   \item{D}{the constant of the calibration: 1, or 1.702 for the metric of the normal ogive.}
   \item{grid}{the lowest and the highest ability and the number of points.}
   \item{prior}{mean and standard deviation of ability, or \code{"flat"}.}
-  \item{rate, key, bands}{exposure control: two whole numbers, 64 hexadecimal digits, and the number of bands.}
+  \item{rate, key, bands}{exposure control: two whole numbers, 64 hexadecimal digits, and the number of bands.
+    The rate is a share of the tests, and with bands a share of the visits of a band.}
   \item{quantities}{names of attributes that become quantities.}
   \item{model}{\code{"GR"}, \code{"GPC"} or \code{"PC"}, for thresholds without a column \code{MODEL}.}
 }

@@ -188,7 +188,7 @@ class Bands(Converter):
         """At the rate 1 / 4 ten shows take 40 visits, and a band with a quarter of the examinees has them in 160 sessions."""
         self.assertEqual(band_points.sessions_needed((1, 4), 0.25), 160)
         _, said, _ = self.bands("--bands", "4", "--prior", "flat", "--grid", "-4", "4", "20")
-        self.assertIn("band 0: -4 to -2.31579, 25.0% of the expected examinees; an item at the rate is shown 10 times there in about 40 sessions\n",
+        self.assertIn("band 0: -4 to -2.31579, 25.0% of the expected examinees; an item at the rate of its visits is shown 10 times in about 40 sessions\n",
                       said)
 
     def test_a_remark_with_the_abilities(self):
@@ -199,7 +199,7 @@ class Bands(Converter):
         """Ten of ten items: each is in every test. With four bands the rate 1 / 2 of visits can be met, and 1 / 5 cannot."""
         words = ("--bands", "4", "--prior", "flat", "--grid", "-4", "4", "20")
         for rate, wanted in (("2", "the rate 1/2 is of the visits of a band, and a session visits several of 4: on average an item is shown in 10/10"),
-                             ("5", "the rate 1/5 cannot be met with 4 bands: on average an item is shown in 10/10 of the sessions")):
+                             ("5", "the rate 1/5 of the visits of a band cannot be met with 4 bands: on average an item is shown in 10/10 of the sessions")):
             self.write("items", self.ITEMS)
             _, _, errors = self.tool("irt_bank", "--items", "items", "--out", "o", "--program", self.takes_all(), "--length", "10", "--rate", "1", rate,
                                      "--key", "0" * 64, *words)
@@ -344,7 +344,7 @@ class Warnings(Converter):
         self.warns("lower asymptotes above 0.5", {"items": "a,b,c\n1,0,0.6\n"}, *one)
         self.warns("difficulties outside the grid", {"items": "a,b\n1,5\n"}, *one)
         self.warns("never above 10 units", {"items": "a,b\n0.1,0\n"}, *one)
-        self.warns("cannot be met", {"items": TWO}, "--length", "2", "--rate", "1", "2", "--key", "0" * 64)
+        self.warns("the rate 1/2 of the sessions cannot be met: on average an item is shown in 2/2 of the sessions", {"items": TWO}, "--length", "2", "--rate", "1", "2", "--key", "0" * 64)
 
     def test_rules_that_cannot_agree(self):
         rules = RULES + "c0,Number,Item,,1,1\nx,Number,Item,K == x,1,1\ny,Number,Item,K == y,1,1\n"

@@ -1,12 +1,14 @@
 """The rate finder: its search on figures that were measured, its counts by hand, and its way through the program."""
+import csv
 import os
 import re
 import tempfile
 import unittest
+from collections import Counter
 from types import SimpleNamespace
 from unittest import mock
 
-from common import PROGRAM, needs_numpy, needs_program
+from common import PROGRAM, ROOT, Folder, needs_numpy, needs_page, needs_program
 from shadowtools.command import Refused
 from shadowtools.formats.examination import Session, read_bank, read_journal, read_plan, sessions_of
 from shadowtools.needs import is_there
@@ -136,7 +138,7 @@ class Runs(Examination):
     def test_the_command(self):
         status, said, errors = self.found("--at-most", "1", "1")
         self.assertEqual((status, errors), (0, ""))
-        self.assertRegex(said, r"^rate 900/1000: visits 1.00, greatest in all [\d.]+ \(I\d\)")
+        self.assertRegex(said, r"^rate 900/1000 per visit: visits 1.00, greatest in all [\d.]+ \(I\d\)")
         self.assertIn("a trial with fewer than 1000 examinees at each ability: --rate 900 1000 --key", said)
         again = self.found("--at-most", "1", "1")
         self.assertEqual(again[1], said)
@@ -153,6 +155,40 @@ class Runs(Examination):
         self.assertIn("no rate meets at most 0.5 in all and 0.5 at an ability; the nearest is rate ", said)
         rates = [int(one) for one in re.findall(r"(?m)^rate (\d+)/1000", said)]
         self.assertEqual(rates, sorted(rates, reverse=True))
+
+
+@needs_page
+@needs_program
+class OfFourBands(Folder):
+    """One sixth of the visits of four bands is more than one sixth of the tests: no tool takes the one for the other."""
+    KEY = "0123456789abcdef" * 4
+
+    def page(self, *words):
+        """The warnings of the plan, the page, and how many of 40 tests have the item that is shown most, counted from the answers."""
+        status, _, warned = self.tool("irt_bank", "--items", os.path.join(ROOT, "examples", "knowledge", "items.csv"), "--length", "12", "--out", "b",
+                                      "--key", self.KEY, *words)
+        self.assertEqual(status, 0, warned)
+        status, _, errors = self.tool("simulate", "b", "--out", "run", "--examinees", "40", "--tails", "none", "--through", "serve", "--clients", "1",
+                                      "--program", PROGRAM)
+        self.assertEqual(status, 0, errors)
+        self.assertEqual(self.tool("report", "b", "--run", "run", "--to", "b.html")[0], 0)
+        with open(self.path("b.answers.csv"), encoding="utf-8") as file:
+            shown = Counter(row["item"] for row in csv.DictReader(file))
+        self.assertEqual(sum(shown.values()), 40 * 12)
+        return warned, self.read("b.html"), max(shown.values())
+
+    def test_a_sixth_of_the_visits(self):
+        warned, page, most = self.page("--rate", "1", "6", "--bands", "4")
+        self.assertIn("the rate 1/6 is of the visits of a band, and a session visits several of 4: on average an item is shown in 12/45", warned)
+        self.assertGreater(most / 40, 12 / 45)
+        self.assertTrue(f"Of the tests, the greatest exposure is {most / 40:.1%} (item " in page)
+        self.assertTrue("The rate is of visits: a test visits " in page)
+        self.assertFalse("above the rate of 16.7%" in page)
+
+    def test_a_third_of_the_tests(self):
+        warned, page, most = self.page("--rate", "1", "3")
+        self.assertFalse("the rate" in warned, warned)
+        self.assertRegex(page, rf"\d+ items? (is|are) above the rate of 33.3% of the tests; the greatest exposure is {100 * most / 40:.1f}% \(item ")
 
 
 if __name__ == "__main__":

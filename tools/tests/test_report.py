@@ -1,5 +1,6 @@
 """The report's formulas beside other computations of the same, and the page beside counts from its tables."""
 import csv
+import hashlib
 import itertools
 import json
 import math
@@ -8,6 +9,7 @@ import random
 import re
 import unittest
 import warnings
+from collections import Counter
 from statistics import NormalDist
 from types import SimpleNamespace
 
@@ -334,7 +336,7 @@ class Pages(Examination):
         self.assertNotIn(key, page)
         self.assertIn("key (not shown)", page)
         above = sum(float(row["exposure"]) > 2 / 3 for row in self.rows("page.items.csv"))
-        self.assertIn(f"{above} {'item is' if above == 1 else 'items are'} above the rate of 66.7%", page)
+        self.assertIn(f"{above} {'item is' if above == 1 else 'items are'} above the rate of 66.7% of the tests", page)
 
     def test_a_broken_rule_is_told(self):
         self.simulate(fake="rules")
@@ -443,7 +445,7 @@ class PagesWithBands(ExaminationWithBands):
     def test_the_section(self):
         """The page has what simulate.py printed, one row a band, and the table of items each rate."""
         _, said, errors = self.simulate("--examinees", "12", "--group", "3")
-        printed = [re.fullmatch(r"band (\d), (.*): visits (\d+), greatest rate ([\d.]+) \((I\d)\), above the rate (\d+), never eligible (\d+) of 8, "
+        printed = [re.fullmatch(r"band (\d), (.*): visits (\d+), greatest rate of the visits ([\d.]+) \((I\d)\), above the rate (\d+), never eligible (\d+) of 8, "
                                 r"set aside (\d+)", line).groups() for line in said.splitlines()[1:]]
         self.assertEqual(self.tool("report", "e", "--run", "run", "--to", "page.html")[0], 0)
         page = self.read("page.html")
@@ -475,6 +477,80 @@ class PagesWithBands(ExaminationWithBands):
         self.assertIn("does not steer these rates", page)
         status, _, errors = self.tool("report", "e", "--run", "run", "--to", "page.html", "--watch", "9")
         self.assertEqual((status, errors.count("\n"), "--watch" in errors), (1, 1, True), errors)
+
+
+@needs_page
+class WhoseRateItIs(ExaminationWithBands):
+    """The rate of a plan is of the tests, and with bands of the visits of a band: each place that prints it says which, and compares like with like."""
+
+    def page(self):
+        status, _, errors = self.simulate("--examinees", "12", "--group", "3")
+        self.assertEqual(status, 0, errors)
+        status, _, errors = self.tool("report", "e", "--run", "run", "--to", "page.html")
+        self.assertEqual((status, errors), (0, ""))
+        with open(self.path("page.items.csv"), encoding="utf-8") as file:
+            self.assertEqual({row["rate"] for row in csv.DictReader(file)}, {"0.6667"})
+        return re.sub(r"base64,[A-Za-z0-9+/=]+", "", self.read("page.html"))
+
+    def whose(self):
+        """What the table of items takes the rate for."""
+        with open(self.path("page.items.csv"), encoding="utf-8") as file:
+            return {row["rate_of"] for row in csv.DictReader(file)}
+
+    def greatest_exposure(self):
+        """Of the tests, counted from the answers: the items have names of their own there."""
+        shown = Counter(name for session in self.answered().values() for name, _ in session)
+        return max(shown.values()) / 12
+
+    def answered(self):
+        """By session its items with the responses, in order."""
+        found = {}
+        with open(self.path("page.answers.csv"), encoding="utf-8") as file:
+            for row in csv.DictReader(file):
+                found.setdefault(row["session"], []).append((row["item"], int(row["response"])))
+        return found
+
+    def rates_of_visits(self):
+        """By band and item, from the formula of the curves and the prior alone: slopes 1.2, difficulties from -1.5 by halves."""
+        visits, shown = Counter(), Counter()
+        for session in self.answered().values():
+            logs, bands = {theta: -theta * theta / 2 for theta in range(-3, 4)}, []
+            for name, response in session:
+                mode = max(logs, key=logs.get)
+                bands.append((mode >= 0) + (mode >= 1))
+                shown[bands[-1], name] += 1
+                sign = 1 if response else -1
+                for theta in logs:
+                    logs[theta] -= math.log(1 + math.exp(-sign * 1.2 * (theta - (int(name[1:]) - 3) / 2)))
+            visits.update(set(bands))
+        return {(band, name): count / visits[band] for (band, name), count in shown.items()}
+
+    def test_with_bands(self):
+        page, rates = self.page(), self.rates_of_visits()
+        self.assertEqual(self.whose(), {"visits"})
+        self.assertTrue(f"Of the tests, the greatest exposure is {self.greatest_exposure():.1%} (item " in page)
+        above = len({name for (_, name), rate in rates.items() if rate > 2 / 3})
+        self.assertTrue(f"{above} {'item is' if above == 1 else 'items are'} above the rate in some band of the estimate, 66.7% of its visits; "
+                        f"the greatest rate is {max(rates.values()):.1%} of the visits (item " in page)
+        self.assertTrue("exposure rate: 2/3 of the visits of each band" in page)
+        for wrong in ("above the rate of 66.7%", "Items above the rate", "Above the rate of the tests", "2/3 of the tests"):
+            self.assertFalse(wrong in page, wrong)
+
+    def test_without_bands(self):
+        self.without_bands()
+        page = self.page()
+        self.assertEqual(self.whose(), {"tests"})
+        shown = Counter(name for session in self.answered().values() for name, _ in session)
+        above = sum(count > 8 for count in shown.values())
+        self.assertTrue(f"{above} {'item is' if above == 1 else 'items are'} above the rate of 66.7% of the tests; the greatest exposure is "
+                        f"{self.greatest_exposure():.1%} (item " in page)
+        self.assertTrue("exposure rate: 2/3 of the tests" in page and "Above the rate of the tests" in page)
+
+    def without_bands(self):
+        self.write("e.plan.txt", self.read("e.plan.txt").replace("bands 3 4\n", ""))
+        found = json.loads(self.read("e.map.json"))
+        found["sha256"]["plan"] = hashlib.sha256(self.read("e.plan.txt").encode()).hexdigest()
+        self.write("e.map.json", json.dumps(found))
 
 
 @needs_page

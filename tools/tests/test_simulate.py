@@ -369,7 +369,7 @@ class ExaminationWithBands(Examination):
 @needs_numpy
 class Bands(ExaminationWithBands):
     def lines(self, said):
-        """By band the visits, the greatest rate, and how many items are above the rate and never eligible."""
+        """By band the visits, the greatest rate of them, and how many items are above the rate and never eligible."""
         return [line.split(": ")[1] for line in said.splitlines() if line.startswith("band ")]
 
     def test_the_line_of_each_band(self):
@@ -390,7 +390,7 @@ class Bands(ExaminationWithBands):
         self.assertEqual(visits[1], 12)
         for line, number, counts in zip(found, visits, shown):
             rates = [count / number if number else 0 for count in counts]
-            self.assertIn(f"greatest rate {max(rates):.3f} (I{rates.index(max(rates))}), above the rate {sum(r > 2 / 3 for r in rates)}, ", line)
+            self.assertIn(f"greatest rate of the visits {max(rates):.3f} (I{rates.index(max(rates))}), above the rate {sum(r > 2 / 3 for r in rates)}, ", line)
         self.assertEqual([line.split(":")[0] for line in said.splitlines()[1:]], ["band 0, -3 to -1", "band 1, 0 to 0", "band 2, 1 to 3"])
 
     def test_equal_numbers_at_the_middle_of_each_band(self):

@@ -1,6 +1,7 @@
 """The control room beside an examination whose numbers are worked out by hand, and beside servers that are away or not well."""
 import collections
 import contextlib
+import hashlib
 import http.client
 import http.server
 import io
@@ -127,6 +128,36 @@ class ControlRoom(InControlRoom):
                 self.assertEqual(self.figures(page).get("Workers busy"), None if health[0] == 404 else "2")
                 self.assertIn("No session is finished yet.", page)
         self.assertIn("gives no reply that counts", self.page()[1])
+
+    def test_whose_the_rate_is(self):
+        """Of 6 sessions an item was shown in 5: above 2 of 3 of the sessions. With bands the rate is of visits, and nothing is compared with it."""
+        rows = [[5, 6], [4, 6]] + [[2, 6]] * 22
+        for bands in (False, True):
+            with self.subTest(bands=bands):
+                if bands:
+                    self.with_plan(self.read("plan.txt") + "bands 10\n")
+                page = self.beside(handler((200, {"busy": 0, "entries": 1, "open": 0, "room": 5000}), (200, {"finished": 6, "rows": rows})))
+                self.assertEqual("The rate is 0.667 of the sessions. 1 of 24 items are above it." in page, not bands)
+                self.assertEqual("The rate 0.667 of the plan is of the visits of a band." in page, bands)
+                self.assertEqual((page.count('class="above"'), page.count('class="rate"'), ", beside the rate." in page), (0, 0, False) if bands else (1, 1, True))
+                self.assertEqual(len(re.findall(r'<rect class="bar"[^>]*><title>', page)), 24 if bands else 23)
+
+    def with_plan(self, text):
+        """Another plan, whose digest the map has."""
+        self.write("plan.txt", text)
+        found = json.loads(self.read("map.json"))
+        found["sha256"]["plan"] = hashlib.sha256(self.bytes_of("plan.txt")).hexdigest()
+        self.write("map.json", json.dumps(found))
+
+    def beside(self, replies):
+        """The page beside a server that has these replies."""
+        with http.server.ThreadingHTTPServer(("127.0.0.1", self.ports["server"]), replies) as server:
+            thread = threading.Thread(target=server.serve_forever)
+            thread.start()
+            page = self.page()[1]
+            server.shutdown()
+            thread.join()
+        return page
 
     def test_a_journal_that_is_refused(self):
         self.write("journal", "SHADOWJ9 is another format")

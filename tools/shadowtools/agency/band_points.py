@@ -74,5 +74,5 @@ def sentences(found: Advice, theta: np.ndarray, rate: Sequence[int]) -> List[str
     ends, said = [0, *found.points, len(theta)], []
     for band, share in enumerate(found.shares):
         said.append(f"band {band}: {theta[ends[band]]:g} to {theta[ends[band + 1] - 1]:g}, {share:.1%} of the expected examinees; "
-                    f"an item at the rate is shown {SHOWS} times there in about {sessions_needed(rate, share):,} sessions")
+                    f"an item at the rate of its visits is shown {SHOWS} times in about {sessions_needed(rate, share):,} sessions")
     return said

@@ -188,5 +188,6 @@ def rate_warnings(rate: Optional[Sequence[int]], length: int, items: int, bands:
         return []
     mean = f"on average an item is shown in {length}/{items} of the sessions"
     if rate[0] * items * bands < length * rate[1]:
-        return [f"the rate {rate[0]}/{rate[1]} cannot be met" + (f" with {bands} bands" if bands > 1 else "") + f": {mean}"]
+        whose = f"visits of a band cannot be met with {bands} bands" if bands > 1 else "sessions cannot be met"
+        return [f"the rate {rate[0]}/{rate[1]} of the {whose}: {mean}"]
     return [f"the rate {rate[0]}/{rate[1]} is of the visits of a band, and a session visits several of {bands}: {mean}, which is above it"]

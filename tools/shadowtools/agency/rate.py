@@ -87,7 +87,7 @@ class Run:
         return max(self.in_all - wish.in_all, self.at_ability - wish.at_ability)
 
     def line(self) -> str:
-        return (f"rate {self.rate}/{THOUSANDTHS}: visits {self.visits:.2f}, greatest in all {self.in_all:.3f} ({self.item}), at an ability "
+        return (f"rate {self.rate}/{THOUSANDTHS} per visit: visits {self.visits:.2f}, greatest in all {self.in_all:.3f} ({self.item}), at an ability "
                 f"{self.at_ability:.3f} ({self.item_there} at {self.ability:.2f}), rate x visits {self.rate / THOUSANDTHS * self.visits:.3f}, "
                 f"set aside in {self.aside:.1%} of {self.tests} tests")
 

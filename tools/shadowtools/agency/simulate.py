@@ -341,7 +341,7 @@ def print_bands(examination: Examination, counts: Exposure) -> None:
     for band, (one, name) in enumerate(zip(counts.watched, band_names(examination.theta, counts.points))):
         rates = one.rates()
         most = max(range(len(rates)), key=lambda item: (rates[item], -item))
-        of_items = (f", greatest rate {rates[most]:.3f} ({examination.items[most].name}), above the rate "
+        of_items = (f", greatest rate of the visits {rates[most]:.3f} ({examination.items[most].name}), above the rate "
                     f"{sum(value > rate for value in rates)}, never eligible {one.eligible.count(0)} of {len(rates)}, set aside {one.aside}")
         print(f"band {band}, {name}: visits {one.visited}" + (of_items if one.visited else ""))
 

@@ -5,7 +5,7 @@ from shadowtools.page import pictures
 from shadowtools.page.parts import Note, Pictures, Section, Table
 from shadowtools.page.study import Study, estimates_of
 
-HEAD = ["Visits", "Share of the tests", "Greatest rate", "Item", "Above the rate", "Never shown",
+HEAD = ["Visits", "Share of the tests", "Greatest rate of the visits", "Item", "Above the rate", "Never shown",
         "Never eligible", "Set aside", "At steps"]
 
 

@@ -174,7 +174,7 @@ def rate_line(study: Study, axes, is_per_visit: bool = False) -> None:
     axes.set_yticks(np.linspace(0, 1, 6))
     shares(axes, "y")
     if study.controlled and study.is_per_visit == is_per_visit:
-        axes.axhline(study.rate, color=RED, ls="--", lw=1.2, label=f"rate of the plan, {study.rate:.0%}{' of the visits' if is_per_visit else ''}")
+        axes.axhline(study.rate, color=RED, ls="--", lw=1.2, label=f"rate of the plan, {study.rate:.0%} of the {'visits' if is_per_visit else 'tests'}")
         axes.set_ylim(0, 1.2)
         axes.legend(loc="upper right", borderaxespad=0)
 
@@ -190,7 +190,7 @@ def exposure_by_estimate(study: Study) -> Picture:
     axes.legend(loc="upper right", borderaxespad=0)
     return picture(figure, "Rates in each band of the estimate, sorted",
                    f"The sorted rates of the items in each of {len(colours)} bands of the estimate"
-                   f"{', beside the rate of the plan' if study.is_per_visit else ''}.", wide=True)
+                   f"{', beside the rate of the plan, which is of the visits' if study.is_per_visit else ''}.", wide=True)
 
 
 def exposure_by_information(study: Study) -> Picture:

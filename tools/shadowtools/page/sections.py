@@ -235,7 +235,7 @@ def exposure(study: Study) -> Section:
                  ("An item at the rate, share of the tests", f"about {study.rate * study.visits:.3f}")]
     elif study.controlled:
         above = rates > study.rate
-        rows.append((f"Items above the rate {study.rate:.3f}", f"{above.sum()}, the greatest by {max(0, (rates - study.rate).max()):.3f}"
+        rows.append((f"Items above the rate {study.rate:.3f} of the tests", f"{above.sum()}, the greatest by {max(0, (rates - study.rate).max()):.3f}"
                                                                f"{named(study.names[above])}"))
     rows.append(("Mean overlap of two tests", fixed(study.overlap(study.sample))))
     if len(within) > 1:
@@ -274,7 +274,7 @@ def exposure_table(study: Study) -> Table:
     rows = [[row.band + (" (tails)" if row.added else ""), f"{row.examinees:,}", fixed(row.greatest_exposure), row.most_shown,
              f"{row.never_shown}", fixed(row.overlap)] for row in table.itertuples()]
     if study.controlled and not study.is_per_visit:
-        head.insert(4, "Above the rate")
+        head.insert(4, "Above the rate of the tests")
         for cells, row in zip(rows, table.itertuples()):
             cells.insert(4, f"{row.above_rate}")
     return Table(head, rows, "Exposure and overlap within each band")
@@ -361,8 +361,8 @@ def items(study: Study) -> Section:
     column = 2 + passages
     marked = frozenset((k, column) for k, row in enumerate(table.itertuples()) if study.controlled and row.above_rate)
     return Section("items", "Items", [Table(head, rows, texts=1 + passages, marked=marked), Note(
-        "Shown and eligible are counted over the sample. A step is counted from 0. An item above the rate is marked" + (
-            ": in the visits of some band." if study.is_per_visit else "."))])
+        "Shown and eligible are counted over the sample. A step is counted from 0. An item above the rate is marked: " + (
+            "in the visits of some band." if study.is_per_visit else "in the tests."))])
 
 
 def plan(study: Study) -> Section:

@@ -247,7 +247,8 @@ def estimates_of(study: Study) -> List[str]:
 
 
 def table_by_item(study: Study) -> pd.DataFrame:
-    """A row for each item of the bank: how often it was shown to the sample, the rate, and what it informs at most.
+    """A row for each item of the bank: how often it was shown to the sample, the rate with what it is a share of, and what it
+    informs at most.
 
     `mean_step` counts from 0, and is empty where the item was never shown. A column for each band of the page has the exposure
     there, and where bands of the estimate are watched one for each of those the rate in it."""
@@ -264,7 +265,7 @@ def table_by_item(study: Study) -> pd.DataFrame:
         "passage": [passages[item.passage - 1] if 0 < item.passage <= len(passages) else "" for item in study.items],
         "field_test": [item.model == FIELD for item in study.items], "shown": study.shown[sample].sum(0),
         "exposure": exposure, "eligible": study.eligible[sample].mean(0),
-        "rate": study.rate, "above_rate": study.above_rate(), "never_shown": exposure == 0,
+        "rate": study.rate, "rate_of": "visits" if study.is_per_visit else "tests", "above_rate": study.above_rate(), "never_shown": exposure == 0,
         "greatest_information": information.max(1), "at_ability": theta[information.argmax(1)],
         "mean_step": [float(np.mean(one)) if one else np.nan for one in steps]})
     for band in study.bands:

@@ -78,7 +78,7 @@ def exposure(study: Study) -> Iterator[Verdict]:
                                 f"{study.rate * study.visits:.1%} of the tests. Of {len(rates)} items {unseen}.")
         return
     above = int((rates > study.rate).sum())
-    yield Verdict(NOT_MET if above else MET, f"{above} {'item is' if above == 1 else 'items are'} above the rate of {study.rate:.1%}; "
+    yield Verdict(NOT_MET if above else MET, f"{above} {'item is' if above == 1 else 'items are'} above the rate of {study.rate:.1%} of the tests; "
                                              f"the greatest exposure is {rates.max():.1%} (item {most}). Of {len(rates)} items {unseen}.")
     if study.counts.points:
         yield exposure_by_estimate(study)

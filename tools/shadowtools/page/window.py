@@ -432,7 +432,7 @@ def of_visits(window: Window) -> List[Section]:
         cells = [fixed(rates.max()), window.names[rates.argmax()], f"{int((rates > window.rate).sum())}"] if counts.visited else ["–"] * 3
         rows.append([f"{band}", name.replace("-", "\N{MINUS SIGN}"), f"{counts.visited:,}", *cells, f"{counts.aside:,}"])
     return [Section("visits", "Exposure by bands of the estimate, per visit", [
-        Table(["Band", "Estimates (logits)", "Visits", "Greatest rate, per visit", "Item", "Above the rate", "Set aside"], rows, texts=2), Note(
+        Table(["Band", "Estimates (logits)", "Visits", "Greatest rate, per visit", "Item", "Above the rate, per visit", "Set aside"], rows, texts=2), Note(
             f"The plan's rate {window.rate:.3f} is per visit: a test visits the band in which it begins, and each band in which an item is served to it. "
             "Counted as the program counts, over all finished sessions, closed and annulled ones with them.")])]
 

@@ -43,7 +43,7 @@ def exposure(window: Window) -> Picture:
     rates = np.sort(window.exposure)[::-1]
     axes.bar(np.arange(len(rates)), rates, width=1, color=BLUE, label="an item")
     if window.rate < 1 and not window.counts.plan.points:
-        axes.axhline(window.rate, color=RED, lw=1.2, ls="--", label="rate of the plan")
+        axes.axhline(window.rate, color=RED, lw=1.2, ls="--", label="rate of the plan, per test")
     axes.set(xlabel="items, the most exposed first", ylabel="share of the complete tests", ylim=(0, 1))
     shares(axes, "y")
     below(axes)
