@@ -513,6 +513,23 @@ class Scores(Folder):
         self.texts(bank=a.BANK.encode(), plan=a.PLAN.replace("length 3", "length 2").encode())
         self.refuses("journal: illegal at 91", "--open")
 
+    @needs_program
+    def test_a_plan_with_another_prior(self):
+        """A short journal is lawful by several plans: each line of the results has the digests of those that were used, and that the journal names none."""
+        history, priors = a.history() + [a.closed(1)], ("prior -10 0 -10", "prior -11 0 -11")
+        self.journal(history)
+        for prior in priors:
+            plan = a.PLAN.replace(priors[0], prior).encode()
+            self.texts(bank=a.BANK.encode(), plan=plan)
+            status, said, errors = self.score("--program", PROGRAM)
+            self.assertEqual(status, 0, errors)
+            for row in csv.DictReader(io.StringIO(said)):
+                self.assertEqual((row["audit"], row["journal"], row["plan"]), ("audited", "unbound", hashlib.sha256(plan).hexdigest()))
+            words = [sys.executable, os.path.join(TOOLS, "audit.py"), "bank", "plan", "j"]
+            audited = subprocess.run(words, cwd=self.folder, capture_output=True, text=True)
+            self.assertEqual(audited.returncode, 0, audited.stderr)
+            self.assertIn(f"plan sha256 {hashlib.sha256(plan).hexdigest()}\n", audited.stderr)
+
     def test_what_is_not_audited_says_so(self):
         forged = a.history()[:-1] + [a.answered(0, 2, 0), a.closed(1)]
         forged[1] = a.served(0, 0, 2, {1, 2, 3}, tree=bytes.fromhex("000600"))

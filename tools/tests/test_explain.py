@@ -11,7 +11,7 @@ import unittest
 import check_series
 import check_tree
 import data_of_bank_a as a
-from common import PROGRAM, TOOLS, Folder, needs_program
+from common import PROGRAM, TOOLS, Folder, needs_numpy, needs_program
 from examination import BankItem, plan_of
 from explain import Program, clash, greatest_bound, irreducible, print_clash, rows_of, used_by_series, without
 from shadowtools.agency.clash_distance import distance
@@ -88,6 +88,31 @@ class RowsOfTheTable(unittest.TestCase):
     def test_lines_without_a_remark(self):
         rules = plan_of("stimulus 1 2 2\nstimulus 2 2 2\n# a\nstimulus 3 1 2\n# b\nstimulus 4 1 2\nstimulus 5 1 2\n").rules
         self.assertEqual([[rule.number for rule in row] for row in rows_of(rules)], [[1], [2], [3], [4, 5]])
+
+
+@needs_numpy
+@needs_program
+class PassagesOfATable(Folder):
+    """Of 24 passages two to four are in a test, with two items each, and 8 items are in no passage: a test has 16 items at most."""
+
+    def plan(self, length):
+        names = [(f"I{passage:02}{k}", f"P{passage:02}") for passage in range(24) for k in range(4)] + [(f"S{k}", "") for k in range(8)]
+        self.write("i", "ID,MODEL,PAR1,PAR2\n" + "".join(f"{name},2PL,{1 + k % 5 / 10:g},{k * 0.04 - 2:g}\n" for k, (name, _) in enumerate(names)))
+        self.write("a", "ID,STID\n" + "".join(f"{name},{passage}\n" for name, passage in names))
+        self.write("c", f"CONSTRAINT,TYPE,WHAT,CONDITION,LB,UB\nlength,Number,Item,,{length},{length}\npassages,Number,Stimulus,,2,4\n"
+                        "each,Number,Item,Per Stimulus,2,2\n")
+        return self.tool("irt_bank", "--items", "i", "--attributes", "a", "--constraints", "c", "--out", "o", "--program", PROGRAM)
+
+    def test_two_rows_are_two_rules(self):
+        status, _, errors = self.plan(18)
+        self.assertEqual(status, 11)
+        self.assertIn("These 2 of 2 rules cannot be met together in a test of 18 items:\n", errors)
+        self.assertRegex(errors, r"  line \d+: stimuli 2 4   row \d: passages: Number Stimulus\n"
+                                 r"  lines \d+ to \d+: stimulus 1 2 2 and 23 more, 24 passages   each: Number Item Per Stimulus\n")
+        self.assertFalse("25 of 25" in errors)
+
+    def test_a_length_that_they_have(self):
+        self.assertEqual(self.plan(16)[0], 0)
 
 
 class Clash(Folder):

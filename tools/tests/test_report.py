@@ -394,6 +394,26 @@ class Pages(Examination):
         self.write("record", self.read("record").replace('"wle"', '"best"'))
         self.refused("no record of score.py: estimate", "--record", "record")
 
+    def test_the_mean_is_over_the_grid_of_the_bank(self):
+        """With a flat prior, and on a grid from -1 to 1 where much of the posterior lies beyond the ends: the mean of both is the sum over the grid."""
+        for points, words in ((range(-3, 4), ["--grid", "-3", "3", "7", "--prior", "flat"]), ((-1, 0, 1), ["--grid", "-1", "1", "3"])):
+            prior = {theta: 0.0 if "flat" in words else -theta * theta / 2 for theta in points}
+            status, _, errors = self.tool("irt_bank", "--items", "items", "--attributes", "attributes", "--constraints", "constraints", "--out", "e", *words)
+            self.assertEqual(status, 0, errors)
+            self.simulate()
+            self.assertEqual(self.report()[0], 0)
+            theirs = self.scores()
+            answers = {}
+            for row in self.rows("page.answers.csv"):
+                answers.setdefault(row["session"], []).append((float(row["item"][1:]), int(row["response"])))
+            for ours, other in zip(self.rows("page.sessions.csv"), theirs):
+                logs = {theta: first - sum(math.log(1 + math.exp((1 - 2 * response) * 1.2 * (theta - (item - 3) / 2)))
+                                           for item, response in answers[ours["session"]]) for theta, first in prior.items()}
+                weights = {theta: math.exp(log) for theta, log in logs.items()}
+                mean = sum(theta * weight for theta, weight in weights.items()) / sum(weights.values())
+                self.assertAlmostEqual(float(ours["eap"]), mean, delta=0.002)
+                self.assertAlmostEqual(float(other["eap"]), mean, delta=0.002)
+
     def test_numbers_of_another_scale(self):
         """450 is no ability in logits, and no score of a scale whose scores are 200 to 800 has the cut 950."""
         self.refused("--cuts 450: the obtainable scores are -3 to 3", "--cuts", "450", "550")
