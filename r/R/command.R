@@ -28,6 +28,7 @@ run_shadow <- function(words, warn = TRUE) {
   status <- suppressWarnings(system2(call[1], shQuote(call[-1]), stdout = said, stderr = errors))
   lines <- lines_of(errors)
   if (status != 0) {
+    if (!length(lines)) lines <- lines_of(said)
     text <- if (length(lines)) paste(lines, collapse = "\n") else sprintf("shadow %s: status %d", words[1], status)
     refuse(text, status = status, lines = lines)
   }

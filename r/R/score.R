@@ -1,6 +1,6 @@
 # Scores of a journal by `shadow score`, and simulations by `shadow simulate`, as data frames.
 
-CHARACTERS <- c("booking", "state", "remark", "level", "audit", "bank", "plan", "map", "journal", "item")
+CHARACTERS <- c("booking", "state", "remark", "level", "audit", "bank", "plan", "map", "journal", "item", "passage", "part", "rule", "kind", "items")
 
 # A table of the command. Bookings go up to 2^64, and an ID is a text: so both are characters.
 read_result <- function(path) {
@@ -9,19 +9,23 @@ read_result <- function(path) {
   read.csv(path, colClasses = classes, check.names = FALSE, encoding = "UTF-8", na.strings = character(), stringsAsFactors = FALSE)
 }
 
-shadow_score <- function(exam, journal, estimate = "eap", scale = c(0, 1), cuts = NULL, levels = NULL, open = FALSE) {
+shadow_score <- function(exam, journal, estimate = "eap", scale = c(0, 1), cuts = NULL, levels = NULL, open = FALSE, record = NULL) {
   answers <- tempfile("answers")
-  record <- tempfile("record")
   results <- tempfile("results")
-  on.exit(unlink(c(answers, record, results)))
-  words <- c("score", exam$bank, exam$plan, paste0(exam$prefix, ".map.json"), "--journal", journal, "--answers", answers,
-             "--record", record, option_words("estimate", estimate), option_words("scale", scale), option_words("cuts", cuts),
-             option_words("levels", levels), if (open) "--open")
+  own <- tempfile("record")
+  on.exit(unlink(c(answers, results, own)))
+  if (is.null(record)) record <- own
+  words <- c(score_words(exam, journal), "--answers", answers, "--record", record, option_words("estimate", estimate),
+             option_words("scale", scale), option_words("cuts", cuts), option_words("levels", levels), if (open) "--open")
   writeLines(run_shadow(words)$out, results, useBytes = TRUE)
   found <- read_result(results)
   attr(found, "answers") <- read_result(answers)
   attr(found, "record") <- jsonlite::fromJSON(record)
   found
+}
+
+score_words <- function(exam, journal) {
+  c("score", exam$bank, exam$plan, paste0(exam$prefix, ".map.json"), "--journal", journal)
 }
 
 shadow_simulate <- function(exam, examinees = 1000, seed = 1, true = NULL, tails = "none", out = tempfile("run")) {
@@ -36,7 +40,7 @@ shadow_simulate <- function(exam, examinees = 1000, seed = 1, true = NULL, tails
   shown <- tabulate(match(answers$item, names), length(names))
   items <- data.frame(item = names, shown = shown, exposure = shown / nrow(results), stringsAsFactors = FALSE)
   structure(class = "shadow_run", list(
-    prefix = out, journal = paste0(out, ".journal"), sha256 = as.list(run$sha256), said = said$out,
+    prefix = out, exam = exam$prefix, journal = paste0(out, ".journal"), sha256 = as.list(run$sha256), said = said$out,
     people = people, answers = answers, items = items
   ))
 }

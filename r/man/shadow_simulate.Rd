@@ -18,7 +18,7 @@ shadow_simulate(exam, examinees = 1000, seed = 1, true = NULL, tails = "none",
 }
 \value{A list of class \code{shadow_run}. \code{people} has a row for each examinee, with the true ability and the columns
   of \code{\link{shadow_score}}. \code{answers} has a row for each answer. \code{items} has how often each item was shown.
-  \code{journal} is the path of the journal, \code{sha256} has the digests of all files.}
+  \code{exam} is the prefix of the examination, \code{journal} the path of the journal, \code{sha256} has the digests of all files.}
 \examples{
 \dontrun{
 run <- shadow_simulate(exam, examinees = 200)

@@ -13,6 +13,13 @@ started <- function(exam, token) {
   list(process = process, url = paste0("http://", sub(".*listening on ([0-9.:]+).*", "\\1", line[1])), journal = journal)
 }
 
+# A copy of a journal that a server has open.
+copy_of <- function(path) {
+  copy <- tempfile("copy")
+  file.copy(path, copy)
+  copy
+}
+
 test_that("a whole session over HTTP, its score, and what a server refuses", {
   token <- "0123456789abcdef0123456789abcdef"
   exam <- shared_exam()
@@ -42,10 +49,28 @@ test_that("a whole session over HTTP, its score, and what a server refuses", {
   expect_error(shadow_close(client, 0, 9007199254740991), "is-closed complete", class = "shadow_reply")
   expect_error(shadow_begin(shadow_client(server$url, token = ""), 10), "401 unauthorized", class = "shadow_reply")
 
+  asked <- character()
+  turned <- function(item) if (length(asked <<- c(asked, item)) == 3) stop("the line is lost") else length(asked) %% 2
+  expect_error(shadow_cat(client, 11, turned), "the line is lost")
+  left <- shadow_record(exam, copy_of(server$journal), 2)
+  expect_identical(left$state, "open")
+  expect_identical(left$steps$item, asked)
+  expect_identical(left$steps$response, c(1L, 0L, NA))
+  rest <- shadow_cat(client, 11, function(item) 1)
+  expect_identical(rest[c("booking", "session", "state")], list(booking = 11, session = 2L, state = "complete"))
+  expect_identical(rest$steps$step, 2:4)
+  expect_identical(rest$steps$item[1], asked[3])
+  whole <- shadow_record(exam, copy_of(server$journal), 2)
+  expect_identical(whole$steps$item, c(asked[1:2], rest$steps$item))
+  expect_identical(whole$steps$response, c(1L, 0L, 1L, 1L, 1L))
+  found <- shadow_eap(exam, whole$steps$item, whole$steps$response)
+  expect_equal(whole$steps$eap[5], found[["eap"]])
+
   tools::pskill(server$process)
   Sys.sleep(0.5)
   scored <- shadow_score(exam, server$journal)
-  expect_identical(scored$booking, c("9007199254740991", "8"))
+  expect_identical(scored$booking, c("9007199254740991", "8", "11"))
+  expect_lt(abs(whole$steps$eap[5] - scored$eap[3]), 5.1e-5)
   expect_lt(abs(shadow_eap(exam, served, rep(1, 5))[["eap"]] - scored$eap[1]), 5.1e-5)
 })
 

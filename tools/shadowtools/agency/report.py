@@ -27,7 +27,7 @@ usage: report.py PREFIX --run OUT --to REPORT.html [options]
 
 PREFIX.bank.csv, PREFIX.plan.txt, PREFIX.map.json are irt_bank.py's; OUT.run.json, OUT.journal, OUT.second.journal and
 OUT.tails.journal are simulate.py's. Their SHA-256 are those that the map and the run have. Beside the page are written REPORT.sessions.csv, a line
-for each examinee; REPORT.answers.csv, a line for each answer; and REPORT.items.csv, a line for each item.
+for each examinee; REPORT.answers.csv, a line for each answer; REPORT.items.csv, a line for each item; and REPORT.rules.csv, a line for each rule.
 
 With --series LINES is a file with what `shadowd series` printed for the weights of PREFIX.weights.txt, which irt_bank.py --weights
 writes. check_series.py judges the lines and their trees. Beside the page is written REPORT.forms.csv, a line for each item with its
@@ -67,7 +67,7 @@ from shadowtools.page.checker import policy_of, require_size  # noqa: E402
 from shadowtools.page.parts import UNBOUND, Section, Verdict  # noqa: E402
 from shadowtools.page.pictures import at_a_glance  # noqa: E402
 from shadowtools.page.sections import chosen, sections  # noqa: E402
-from shadowtools.page.study import Questions, Study, answers, table_by_item, target_of  # noqa: E402
+from shadowtools.page.study import Questions, Study, answers, table_by_item, table_by_rule, target_of  # noqa: E402
 from shadowtools.page.verdicts import verdicts  # noqa: E402
 from shadowtools.places import revision  # noqa: E402
 
@@ -283,7 +283,8 @@ def main(words: Sequence[str]) -> int:
 def report_of_run(given: argparse.Namespace) -> int:
     """Writes the page of a simulation and its tables. The exit status."""
     asked, begin = questions(given), os.path.splitext(given.to)[0]
-    for path in (given.to, begin + ".sessions.csv", begin + ".answers.csv", begin + ".items.csv", given.picture or given.to):
+    tables = [f"{begin}.{name}.csv" for name in ("sessions", "answers", "items", "rules")]
+    for path in (given.to, *tables, given.picture or given.to):
         require_folder("--to" if path != given.picture else "--picture", path)
     examination, run = load(given.prefix, given.unbound), read_run(given.run + ".run.json")
     require_abilities(given, examination, run)
@@ -295,9 +296,8 @@ def report_of_run(given: argparse.Namespace) -> int:
     try:
         with open(given.to, "w", encoding="utf-8") as file:
             file.write(text)
-        write_table(begin + ".sessions.csv", study.people)
-        write_table(begin + ".answers.csv", answers(study))
-        write_table(begin + ".items.csv", table_by_item(study))
+        for path, table in zip(tables, (study.people, answers(study), table_by_item(study), table_by_rule(study))):
+            write_table(path, table)
         if given.picture:
             at_a_glance(study, chosen(study)[1], given.picture)
     except OSError as error:

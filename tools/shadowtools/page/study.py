@@ -292,6 +292,19 @@ def table_by_band(study: Study, bands: Sequence[Band]) -> pd.DataFrame:
     return pd.DataFrame(rows)
 
 
+def table_by_rule(study: Study) -> pd.DataFrame:
+    """A row for each rule of the plan: its line there, its bounds, and over the tests that it speaks of, the tails with them, the least, mean
+    and greatest value, the shares at each bound, and in how many it is broken. A rule that speaks of no test has no value."""
+    columns = ["line", "rule", "low", "high", "tests", "least", "mean", "greatest", "at_low", "at_high", "broken"]
+    rows = []
+    for rule in study.rules:
+        found = [rule.value(session.items, study.examination.bank) for session in study.sessions]
+        values = np.array([value for value in found if value is not None])
+        over = [values.min(), values.mean(), values.max(), (values == rule.low).mean(), (values == rule.high).mean()] if len(values) else [""] * 5
+        rows.append([rule.line, rule.label, rule.low, rule.high, len(values), *over, sum(one.rule is rule for one in study.broken)])
+    return pd.DataFrame(rows, columns=columns)
+
+
 def answers(study: Study) -> pd.DataFrame:
     """A row for each answer: session, booking, step from 0, item and response, as score.py --answers has them."""
     rows = [(number, session.booking, step, study.names[item], response) for number, session in enumerate(study.sessions)
