@@ -27,8 +27,8 @@ steps_of <- function(exam, given, waiting) {
   }, numeric(3))
   open <- rep(NA_real_, length(waiting))
   count <- nrow(given) + length(waiting)
-  data.frame(step = seq_len(count) - 1L, item = c(given$item, waiting), response = c(given$response, open), mode = c(after[1, ], open),
-             eap = c(after[2, ], open), posterior_sd = c(after[3, ], open), stringsAsFactors = FALSE)
+  data.frame(step = seq_len(count) - 1L, item = c(given$item, waiting), response = c(given$response, as.integer(open)),
+             mode = c(after[1, ], open), eap = c(after[2, ], open), posterior_sd = c(after[3, ], open), stringsAsFactors = FALSE)
 }
 
 # The numbers of a set as the tools print one: "0 2-4" is 0, 2, 3, 4.

@@ -216,6 +216,8 @@ class LongNames(Examination):
         self.assertEqual((status, errors), (0, ""))
         self.assertTrue('<td class="text">MATHE..00003</td><td class="text">MATHEMATICS_GRADE_8_000003</td>' in self.read("page.html"))
         self.assertTrue(".pictures { grid-template-columns: minmax(0, 1fr) }" in self.read("page.html"))
+        self.assertRegex(self.read("page.html"), r"@media screen \{\s*\.scroll \{ background: [^}]* local,[^}]* scroll; background-repeat: no-repeat \}")
+        self.assertRegex(self.read("page.html"), r"section\.files \{ break-inside: avoid \}")
 
 
 @needs_page
@@ -280,6 +282,22 @@ class Pages(Examination):
         overlap = sum(len(one & other) for one, other in pairs) / 6 / 4
         self.assertIn(f"<dt>Mean overlap of two tests</dt><dd>{overlap:.3f}</dd>", page)
         self.assertIn("exposure at 2", items[0])
+
+    def test_the_table_of_rules_from_the_answers(self):
+        """Each count of the plan over all tests, the tails with them, by its line of the plan and the answers alone."""
+        self.report()
+        tests, lines = {}, self.read("e.plan.txt").splitlines()
+        for row in self.rows("page.answers.csv"):
+            tests.setdefault(row["booking"], set()).add(int(row["item"][1:]))
+        rows = self.rows("page.rules.csv")
+        self.assertEqual([int(row["line"]) for row in rows], [place for place, line in enumerate(lines, 1) if line.startswith("count ")])
+        for row in rows:
+            _, low, high, *places = lines[int(row["line"]) - 1].split()
+            ends = [tuple(map(int, place.split("-"))) for place in places]
+            values = [sum(any(one[0] <= item <= one[-1] for one in ends) for item in test) for test in tests.values()]
+            wanted = [low, high, str(len(values)), str(min(values)), f"{sum(values) / len(values):.4f}", str(max(values)),
+                      f"{values.count(int(low)) / len(values):.4f}", f"{values.count(int(high)) / len(values):.4f}", "0"]
+            self.assertEqual(list(row.values())[2:], wanted)
 
     def test_sentences_from_the_sessions(self):
         """The standard error and the decisions of the verdicts, counted from the table of sessions."""

@@ -9,6 +9,8 @@ from shadowtools.page.parts import Picture
 from shadowtools.page.pictures import BLUE, GREY, RED, below, half, picture, shares
 from shadowtools.page.study import plain
 
+MANY = 500    # examinees, above which their dots are small
+
 
 def scores(window: Window) -> Picture:
     """How many examinees have which score, with the cut scores."""
@@ -27,13 +29,14 @@ def draw_cuts(window: Window, axes) -> None:
 
 
 def errors(window: Window) -> Picture:
-    """The standard error of each score."""
+    """The standard error of each score. The greatest one is clear of the edge."""
     figure, axes = half(legend=1)
-    axes.plot(window.scale, window.unit * window.error, ".", ms=3, color=BLUE, alpha=0.4, label="an examinee")
-    draw_cuts(window, axes)
-    axes.set(xlabel="reported score", ylabel="its standard error", ylim=(0, None))
-    below(axes)
     least, most = (window.unit * end for end in (window.error.min(), window.error.max()))
+    size = 3 if len(window.error) > MANY else 6
+    axes.plot(window.scale, window.unit * window.error, ".", ms=size, color=BLUE, alpha=0.5, label="an examinee")
+    draw_cuts(window, axes)
+    axes.set(xlabel="reported score", ylabel="its standard error", ylim=(0, 1.1 * most))
+    below(axes)
     return picture(figure, "Standard error of each reported score", f"The standard errors of the scores are from {least:.4g} to {most:.4g}.")
 
 
