@@ -1,5 +1,6 @@
 """The price of each rule and the gain of each item beside all sets of items, enumerated here."""
 import csv
+import html
 import itertools
 import json
 import math
@@ -88,6 +89,13 @@ class Prices(Examination):
         self.assertIn("Prices of single rules do not add up to that of all", page)
         self.assertRegex(page, r"<b>met</b><span>\d+ of \d+ numbers are proved, by \d+ forms\.")
         self.assertIsNone(re.search(r"<script|https?://", page))
+        names = {"best form": "best form, all rules", "all rules together": "price of all rules together"}
+        cells = {row[0]: row[1:] for row in (re.findall(r"<td[^>]*>(.*?)</td>", one) for one in re.findall(r"<tr>(.*?)</tr>", page)) if row}
+        for row in rules:
+            self.assertEqual(cells[names.get(row["rule"], html.escape(row["rule"], quote=False).replace('"', "&#34;"))],
+                             [f"{float(row[f'least at {ability}']):.3f}" for ability in (-1, 0, 1)])
+        self.assertEqual(cells["sum of the single prices"],
+                         [f"{sum(float(row[f'least at {ability}']) for row in rules[2:]):.3f}" for ability in (-1, 0, 1)])
         self.assertEqual(self.prices("--rules-only")[1], [])
 
     def test_a_form_that_is_not_proved(self):
